@@ -1,0 +1,10 @@
+pub mod Allowed
+pub mod Places
+pub mod Images
+pub mod Kept
+pub mod Sheets
+pub mod Laws
+pub mod Unseen
+pub mod Windows
+pub mod Steps
+pub mod Runs

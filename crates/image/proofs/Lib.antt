@@ -1,0 +1,10 @@
+pub mod Sizes
+pub mod Granted
+pub mod Strides
+pub mod Paint
+pub mod Puts
+pub mod Painted
+pub mod RowsOf
+pub mod Full
+pub mod Laid
+pub mod Copied

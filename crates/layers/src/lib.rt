@@ -1,0 +1,8 @@
+// Layers over families; a pile of layers is again a family.
+pub mod limit;
+pub mod pair;
+
+pub use limit::Limit;
+pub use limit::LimitFamily;
+pub use pair::Pair;
+pub use pair::PairFamily;

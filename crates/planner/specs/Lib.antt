@@ -1,0 +1,5 @@
+pub mod Stages
+pub mod Chains
+pub mod Plans
+pub mod Plan
+pub mod Strategies

@@ -1,0 +1,9 @@
+pub mod Joined
+pub mod Taken
+pub mod Sampled
+pub mod Runs
+pub mod Packed
+pub mod Chained
+pub mod Plans
+pub mod Resampled
+pub mod Stands

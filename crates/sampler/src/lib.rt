@@ -1,0 +1,6 @@
+// Resampling functions.
+pub mod sampler;
+
+pub use sampler::ResamplingFilter;
+pub use sampler::ResamplingFunction;
+pub use sampler::ResamplingFunctionPartialEq;

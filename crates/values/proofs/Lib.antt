@@ -1,0 +1,4 @@
+pub mod Within
+pub mod Shapes
+pub mod Plans
+pub mod Copies

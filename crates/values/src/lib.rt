@@ -1,0 +1,1 @@
+// What the stages of a plan come to: definitions only, in specs/.
