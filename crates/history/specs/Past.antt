@@ -54,9 +54,9 @@ module _ {E : Type 0} (size : ℕ) (deep : Bool) where
 
   -- What holds of a sheet with such a past.
   pub record Upheld (made : Store E) (es : List (Entry E)) (s : Store E) : Type 0 where
-    -- the count of its wrong pixels is nought
+    -- no pixel is wrong: their count is 0
     pub no-wrong-pixel : Wrong (λ p. Right made (calls es) s (p % made .numbers .width) (p / made .numbers .width)) (made .numbers .width * made .numbers .height) 0
-    -- all other elements hold what the making found
+    -- every other element holds what the buffer held when the sheet was made
     pub as-found : (k : ℕ) (d : E) → Untouched made (calls es) k → getD (s .elements) k d ≡ getD (made .elements) k d
     pub numbers : s .numbers ≡ made .numbers
     pub length-kept : length (s .elements) ≡ length (made .elements)

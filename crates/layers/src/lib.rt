@@ -1,4 +1,4 @@
-// Layers over families; a pile of layers is again a family.
+// Layers over families; a layer over layers is again a family.
 pub mod limit;
 pub mod pair;
 

@@ -2,22 +2,21 @@
 ghost use mathlib.Core.Path.{_≡_};
 ghost use mathlib.Core.List.{List};
 ghost use Prim.Native.Nat.{ℕ, _-_, _*_, _^_, _<_, _≤_, min};
-ghost use mathlib.Core.Logic.{_⊎_};
 ghost use Rattle.std.specs.Of.Vec.{vec-items, vec-len};
 ghost use Rattle.std.specs.Results.{Cases};
 ghost use Rattle.std.specs.Vec.{made};
 ghost use Rattle.image.specs.declared.validation.PicScaleError.the-variants.{OutOfMemory};
 ghost use lib.ListN.{length};
-ghost use Rattle.image.specs.Refusals.{reply, answer, number-of, values-of};
-ghost use Rattle.image.specs.Refusals.Answer.{granted, refused};
+ghost use Rattle.image.specs.Refusals.{reply, answer};
+ghost use Rattle.image.specs.Refusals.Answer.{granted};
 ghost use Rattle.image.specs.Rows.{row, joined};
-ghost use Rattle.planner.specs.Plan.{plan-work, plan-half};
+ghost use Rattle.planner.specs.Plan.{Planned, but-for-memory, plan-work, plan-half};
 ghost use Rattle.planner.specs.Plans.{area};
 ghost use Rattle.history.specs.Calls.{answer-to, plan-value};
 ghost use Rattle.image.specs.Stores.{laid};
 ghost use Rattle.std.specs.Results.{isOk};
 ghost use mathlib.Core.Bool.{false, cond};
-ghost use Rattle.order.specs.Orders.{element-checks, order-answer, order-stages, order-rows, order-target};
+ghost use Rattle.order.specs.Orders.{element-checks, order-answer, order-channels, order-scaler, order-source, order-target, order-rows};
 ghost use Rattle.order.specs.Packed.{packed-numbers, packed-call, plan-pixels};
 use crate::order::read_order;
 use convolution::KernelFamily;
@@ -33,6 +32,9 @@ use resampling::resample_with_scratch;
 use std::alloc::Global;
 
 const ELEMENT_LIMIT: usize = 4096;
+
+// The number of want of memory.
+const OUT_OF_MEMORY: usize = 100;
 
 // The elements of an image, or the largest number where there are more.
 fn elements(channels: usize, size: ImageSize) -> usize
@@ -107,14 +109,23 @@ fn finish<F: KernelFamily<u8>>(heap: Global, plan: ResamplingPlan<u8, F>, source
     Ok(Resized { plan, pixels })
 }
 
-// One order. A refusal is the first of reading, planning and the elements, or want of memory.
+// One order. A refusal is the first of reading, planning and the elements; want of memory comes after all of them.
 pub fn resize<F: KernelFamily<u8>>(heap: Global, family: F, bytes: &[u8]) -> Result<Resized<F>, PicScaleError>
-    ensures answer { λ r. ⌜ Cases r (λ _. granted ≡ order-answer (F·KernelFamily .meaning family .knows) (now (bytes .entry))) (λ e. (e ≡ OutOfMemory) ⊎ (refused (number-of e) (values-of e) ≡ order-answer (F·KernelFamily .meaning family .knows) (now (bytes .entry)))) ⌝ }
-    ensures stages { λ r. ⌜ made r (λ out. vec-items (out .plan .steps) ≡ order-stages (now (bytes .entry))) ⌝ }
+    ensures answer { λ r. ⌜ but-for-memory (reply r) ≡ order-answer (F·KernelFamily .meaning family .knows) (now (bytes .entry)) ⌝ }
+    ensures plan { λ r. ⌜ made r (λ out. Planned family (order-scaler (now (bytes .entry))) (order-channels (now (bytes .entry))) (order-source (now (bytes .entry))) (order-target (now (bytes .entry))) (out .plan)) ⌝ }
     ensures rows { λ r. ⌜ made r (λ out. vec-items (out .pixels) ≡ joined (row (order-rows (F·KernelFamily .meaning family) (now (bytes .entry)))) (order-target (now (bytes .entry)) .height)) ⌝ }
 {
     let order = read_order(bytes)?;
-    let plan = plan_generic_resize::<u8, F>(heap, order.scaler, family, order.channels, order.source, order.target)?;
-    check_elements(order.channels, order.source, order.target, order.pixels.len())?;
-    finish(heap, plan, order.pixels)
+    match plan_generic_resize::<u8, F>(heap, order.scaler, family, order.channels, order.source, order.target) {
+        Ok(plan) => {
+            check_elements(order.channels, order.source, order.target, order.pixels.len())?;
+            finish(heap, plan, order.pixels)
+        }
+        Err(fault) => {
+            if fault.code() == OUT_OF_MEMORY {
+                check_elements(order.channels, order.source, order.target, order.pixels.len())?;
+            }
+            Err(fault)
+        }
+    }
 }
