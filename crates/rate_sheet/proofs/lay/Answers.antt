@@ -7,4 +7,4 @@ use Rattle.rate_sheet.proofs.lay.Goals as goal
 pub returns : goal.returns
 returns g c =
     let s = sheet_of c.args.sheet.now in
-    after s (sheet_of c.resample-window.new.sheet) _ (c.resample-window.ensures.past s [] fresh)
+    after s (sheet_of c.resample_window.new.sheet) _ (c.resample_window.ensures.past s [] fresh)

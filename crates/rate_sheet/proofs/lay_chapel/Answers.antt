@@ -2,4 +2,4 @@ use Rattle.rate_sheet.proofs.Calls.{in_turn}
 use Rattle.rate_sheet.proofs.lay_chapel.Goals as goal
 
 pub returns : goal.returns
-returns g c = in_turn c.in-ok-lay.ensures c.in-ok-lay-2.ensures
+returns g c = in_turn c.in_ok-lay.ensures c.in_ok-lay-2.ensures

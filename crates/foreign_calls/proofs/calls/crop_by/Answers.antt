@@ -3,7 +3,7 @@ use Rattle.foreign_calls.proofs.calls.crop_by.Goals as goal
 
 pub returns : goal.returns
 returns g c =
-    let e = c.in-ok-buffer.ensures in
+    let e = c.in_ok-buffer.ensures in
     record {
       reply = e.reply;
       part = (e.part.0, ap length e.part.1 ∙ length-drop _ _);

@@ -6,7 +6,7 @@ use Rattle.foreign_calls.proofs.calls.stage_at.Goals as goal
 pub returns-then-number-stages : goal.returns-then-number-stages
 returns-then-number-stages g c =
     let xs = c.stages-stages.result.now in
-    c.row-of.ensures
+    c.row_of.ensures
     ∙ (sym (get_or-map stage_row xs c.args.number _ c.args.otherwise c.if-number-stages.true)
     ∙ ap (λ sts. get_or (map stage_row sts) c.args.number c.args.otherwise) c.stages-stages.ensures.value)
 

@@ -3,9 +3,9 @@ use Rattle.std.proofs.lemmas.Bool.Decides.{nat_tests}
 use Rattle.image.specs.Stores.{part_answer}
 use Rattle.image.proofs.image_store.check_part.Goals as goal
 
-pub returns-then-width-image-width : goal.returns-then-width-image-width
+pub returns-then-width-image_width : goal.returns-then-width-image_width
 unfolding part_answer
-returns-then-width-image-width c = search rules
+returns-then-width-image_width c = search rules
 
 pub returns-then-width-eq0 : goal.returns-then-width-eq0
 unfolding part_answer

@@ -2,9 +2,9 @@ use Rattle.std.proofs.Common.{rules}
 use Rattle.image.specs.Stores.{same_answer}
 use Rattle.image.proofs.image_store.check_same.Goals as goal
 
-pub returns-then-dst-channels-src-channels : goal.returns-then-dst-channels-src-channels
+pub returns-then-dst_channels-src_channels : goal.returns-then-dst_channels-src_channels
 unfolding same_answer
-returns-then-dst-channels-src-channels c = search rules
+returns-then-dst_channels-src_channels c = search rules
 
 pub returns-then-ne : goal.returns-then-ne
 unfolding same_answer

@@ -8,4 +8,4 @@ loop-y-init g c = painted_none _ _ _
 
 pub loop-y-preserved : goal.loop-y-preserved
 loop-y-preserved g c =
-    painted_more c.args.dst.now c.loop-y.dst c.copy-from-slice.new.self c.args.dst_stride c.loop-y.y _ _ _ c.loop-y.invariant c.row-start-to.ensures.value (search (rules, row-rows)) (search rules)
+    painted_more c.args.dst.now c.loop-y.dst c.copy_from_slice.new.self c.args.dst_stride c.loop-y.y _ _ _ c.loop-y.invariant c.row_start-to.ensures.value (search (rules, row-rows)) (search rules)

@@ -9,5 +9,5 @@ returns c =
     let w = c.args.width * c.args.chan in
     let h = c.args.height in
     let e = c.args.t_size in
-    ap (ltb byte_limit) (c.saturating-mul-3.ensures ∙ ap (λ (v : ℕ). min (v * e) m) (c.saturating-mul-2.ensures ∙ ap (λ (v : ℕ). min (v * h) m) c.saturating-mul.ensures ∙ sat_mul w h m c.requires.0) ∙ sat_mul (w * h) e m c.requires.1)
+    ap (ltb byte_limit) (c.saturating_mul-3.ensures ∙ ap (λ (v : ℕ). min (v * e) m) (c.saturating_mul-2.ensures ∙ ap (λ (v : ℕ). min (v * h) m) c.saturating_mul.ensures ∙ sat_mul w h m c.requires.0) ∙ sat_mul (w * h) e m c.requires.1)
     ∙ sat_test byte_limit (w * h * e) m (lit< tt)

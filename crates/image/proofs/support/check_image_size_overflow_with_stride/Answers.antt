@@ -10,6 +10,6 @@ returns-else-stride-gt-LIMIT c =
     let lhs = c.args.stride * (c.args.height - 1) in
     let rhs = c.args.width * c.args.chan in
     let e = c.args.t_size in
-    let sum : c.saturating-add.result ≡ min (lhs + rhs) m = c.saturating-add.ensures ∙ ap (λ (v : ℕ). min (v + c.saturating-mul-rhs.result) m) c.saturating-mul-lhs.ensures ∙ ap (λ (v : ℕ). min (min lhs m + v) m) c.saturating-mul-rhs.ensures ∙ sat_add lhs rhs m in
-    let all : ltb byte_limit c.saturating-mul.result ≡ ltb byte_limit ((lhs + rhs) * e) = ap (ltb byte_limit) (c.saturating-mul.ensures ∙ ap (λ (v : ℕ). min (v * e) m) sum ∙ sat_mul (lhs + rhs) e m c.requires.1) ∙ sat_test byte_limit ((lhs + rhs) * e) m (lit< tt) in
+    let sum : c.saturating_add.result ≡ min (lhs + rhs) m = c.saturating_add.ensures ∙ ap (λ (v : ℕ). min (v + c.saturating_mul-rhs.result) m) c.saturating_mul-lhs.ensures ∙ ap (λ (v : ℕ). min (min lhs m + v) m) c.saturating_mul-rhs.ensures ∙ sat_add lhs rhs m in
+    let all : ltb byte_limit c.saturating_mul.result ≡ ltb byte_limit ((lhs + rhs) * e) = ap (ltb byte_limit) (c.saturating_mul.ensures ∙ ap (λ (v : ℕ). min (v * e) m) sum ∙ sat_mul (lhs + rhs) e m c.requires.1) ∙ sat_test byte_limit ((lhs + rhs) * e) m (lit< tt) in
     grind (arith, nat_tests)

@@ -6,19 +6,19 @@ use Rattle.lines.specs.Lines.{line}
 use Rattle.lines.specs.OfLines.{packed, length_range, part_range}
 use Rattle.lines.proofs.lines.outputs_of_4_rows.Goals as goal
 
-pub pixel-of-row-pixel-requires : goal.pixel-of-row-pixel-requires
-pixel-of-row-pixel-requires g c =
-    let from = length_range c.args.src.now c.row-start-from.result (c.args.n * g.row.N) c.row-start-from.ensures.within in
+pub pixel_of_row-pixel-requires : goal.pixel_of_row-pixel-requires
+pixel_of_row-pixel-requires g c =
+    let from = length_range c.args.src.now c.row_start-from.result (c.args.n * g.row.N) c.row_start-from.ensures.within in
     let few : g.row.N ≤ length c.args.src.now = omega (arith, packed c.args.n g.row.N c.requires.sizes.0.0, c.requires.source) in
     (lt_of_le_of_lt (mul-le-mul_right _ few) (search rules), (c.requires.place, (c.requires.sizes, (c.requires.output, (c.requires.channels.0, from)))))
 
-pub shared-whole-as-slice·copy-from-slice : goal.shared-whole-as-slice·copy-from-slice
-shared-whole-as-slice·copy-from-slice g c =
+pub shared-whole-as_slice·copy_from_slice : goal.shared-whole-as_slice·copy_from_slice
+shared-whole-as_slice·copy_from_slice g c =
     let few : g.row.N ≤ length c.args.src.now = omega (arith, packed c.args.n g.row.N c.requires.sizes.0.0, c.requires.source) in
     lt_of_le_of_lt (mul-le-mul_right _ few) (search rules)
 
-pub offset-bounds-dst-to : goal.offset-bounds-dst-to
-offset-bounds-dst-to g c = let within = c.row-start-to.ensures.within in search (rules, scaled_fits≤)
+pub offset_bounds-dst-to : goal.offset_bounds-dst-to
+offset_bounds-dst-to g c = let within = c.row_start-to.ensures.within in search (rules, scaled_fits≤)
 
 pub loop-i-init : goal.loop-i-init
 loop-i-init g c = painted_none _ _ _
@@ -28,8 +28,8 @@ loop-i-preserved g c =
     let xs = c.args.src.now in
     let row = c.args.n * g.row.N in
     let is =
-    c.copy-from-slice.ensures.after
-    ∙ (c.pixel-of-row-pixel.ensures
+    c.copy_from_slice.ensures.after
+    ∙ (c.pixel_of_row-pixel.ensures
     ∙ ap (λ (zs : List g.row.T.Denot). joined (λ k. g.K.LineKernel.value (line zs k g.row.N c.args.n) c.args.m c.args.x) g.row.N)
-    (part_range xs c.row-start-from.result row ∙ ap (λ (p : ℕ). part p row xs) c.row-start-from.ensures.value)) in
-    painted_more c.args.dst.now c.loop-i.dst c.copy-from-slice.new.self c.args.dst_stride c.loop-i.i _ _ _ c.loop-i.invariant c.row-start-to.ensures.value is (search rules)
+    (part_range xs c.row_start-from.result row ∙ ap (λ (p : ℕ). part p row xs) c.row_start-from.ensures.value)) in
+    painted_more c.args.dst.now c.loop-i.dst c.copy_from_slice.new.self c.args.dst_stride c.loop-i.i _ _ _ c.loop-i.invariant c.row_start-to.ensures.value is (search rules)

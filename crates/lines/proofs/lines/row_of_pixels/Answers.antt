@@ -5,25 +5,25 @@ use Rattle.image.proofs.Full.{painted_full}
 use Rattle.lines.specs.OfLines.{packed, length-pixel}
 use Rattle.lines.proofs.lines.row_of_pixels.Goals as goal
 
-pub row-start-at-requires : goal.row-start-at-requires
-row-start-at-requires g c = let e = packed c.args.m g.row.N c.requires.sizes.1.0 in search rules
+pub row_start-at-requires : goal.row_start-at-requires
+row_start-at-requires g c = let e = packed c.args.m g.row.N c.requires.sizes.1.0 in search rules
 
 pub loop-x-init : goal.loop-x-init
 loop-x-init g c = painted_none _ _ _
 
-pub pixel-of-row-pixel-requires : goal.pixel-of-row-pixel-requires
-pixel-of-row-pixel-requires g c =
+pub pixel_of_row-pixel-requires : goal.pixel_of_row-pixel-requires
+pixel_of_row-pixel-requires g c =
     let few : g.row.N ≤ length c.args.src.now = omega (arith, packed c.args.n g.row.N c.requires.sizes.0.0, c.requires.source) in
     (lt_of_le_of_lt (mul-le-mul_right _ few) (search rules), (c.place-place.ensures, (c.requires.sizes, (c.loop-x-test.true, (c.requires.channels, c.requires.source)))))
 
-pub shared-whole-as-slice·copy-from-slice : goal.shared-whole-as-slice·copy-from-slice
-shared-whole-as-slice·copy-from-slice g c =
+pub shared-whole-as_slice·copy_from_slice : goal.shared-whole-as_slice·copy_from_slice
+shared-whole-as_slice·copy_from_slice g c =
     let few : g.row.N ≤ length c.args.src.now = omega (arith, packed c.args.n g.row.N c.requires.sizes.0.0, c.requires.source) in
     lt_of_le_of_lt (mul-le-mul_right _ few) (search rules)
 
 pub loop-x-preserved : goal.loop-x-preserved
 loop-x-preserved g c =
-    painted_more c.args.dst.now c.loop-x.dst c.copy-from-slice.new.self g.row.N c.loop-x.x _ _ _ c.loop-x.invariant c.row-start-at.ensures.value (c.copy-from-slice.ensures.after ∙ c.pixel-of-row-pixel.ensures) (search rules)
+    painted_more c.args.dst.now c.loop-x.dst c.copy_from_slice.new.self g.row.N c.loop-x.x _ _ _ c.loop-x.invariant c.row_start-at.ensures.value (c.copy_from_slice.ensures.after ∙ c.pixel_of_row-pixel.ensures) (search rules)
 
 pub returns : goal.returns
 returns g c =

@@ -4,5 +4,5 @@ use Rattle.order.proofs.resizing.finish.Goals as goal
 
 pub returns : goal.returns
 returns g c =
-    let long : length c.run-order.new.pixels ≡ c.in-ok-pixels.pixels.len = search rules in
-    (refl, take_at c.run-order.new.pixels _ c.in-ok-pixels.pixels.len long ∙ c.run-order.ensures.after)
+    let long : length c.run_order.new.pixels ≡ c.in_ok-pixels.pixels.len = search rules in
+    (refl, take_at c.run_order.new.pixels _ c.in_ok-pixels.pixels.len long ∙ c.run_order.ensures.after)

@@ -18,15 +18,15 @@ returns g c =
     let a = c.args.first.now in
     let b = c.args.second.now in
     let ec = c.channels.ensures in
-    let es = c.source-size.ensures in
-    let et = c.target-size.ensures in
-    let told : reply c.resample-packed.result ≡ answer_to 1 false (packed_call m p p.channels p.source_size src w a b) (record { numbers = packed_numbers p.channels p.target_size; elements = xs }) =
-    c.resample-packed.ensures.reply ∙ (λ i. answer_to 1 false (packed_call m p (ec i) (es i) src w a b) (record { numbers = packed_numbers (ec i) (et i); elements = xs })) in
-    let ok : granted ≡ reply c.resample-packed.result = packed_granted m p src xs w a b c.requires.source c.requires.target c.requires.work c.requires.halves.0 c.requires.halves.1 ∙ sym told in
+    let es = c.source_size.ensures in
+    let et = c.target_size.ensures in
+    let told : reply c.resample_packed.result ≡ answer_to 1 false (packed_call m p p.channels p.source_size src w a b) (record { numbers = packed_numbers p.channels p.target_size; elements = xs }) =
+    c.resample_packed.ensures.reply ∙ (λ i. answer_to 1 false (packed_call m p (ec i) (es i) src w a b) (record { numbers = packed_numbers (ec i) (et i); elements = xs })) in
+    let ok : granted ≡ reply c.resample_packed.result = packed_granted m p src xs w a b c.requires.source c.requires.target c.requires.work c.requires.halves.0 c.requires.halves.1 ∙ sym told in
     record {
       reply = ok;
       after =
-          where_granted c.resample-packed.result _ _ _ c.resample-packed.ensures.after ok
+          where_granted c.resample_packed.result _ _ _ c.resample_packed.ensures.after ok
           ∙ ((λ i. laid (packed_numbers (ec i) (et i)) (plan_value (packed_call m p (ec i) (es i) src w a b) 0) xs)
           ∙ packed_laid m p src xs w a b (g.met.F.KernelFamily.shaped p.family) c.requires.source c.requires.target);
     }

@@ -6,5 +6,5 @@ pub returns-in-MultiStep : goal.returns-in-MultiStep
 returns-in-MultiStep g c =
     let way = c.in-MultiStep.ensures in
     first_asked (g.F.KernelFamily.meaning c.args.family.now).knows c.args.scaler.function c.args.source c.args.target _ _ _ _ _
-    (below c.args.source c.args.target c.requires.source way.suits) c.next-intermediate-size-next-size.ensures c.twice-max-ratio-ratio.ensures
-    c.new-in-MultiStep.ensures way.stages c.asks-unknown-in-MultiStep.ensures
+    (below c.args.source c.args.target c.requires.source way.suits) c.next_intermediate_size-next_size.ensures c.twice_max_ratio-ratio.ensures
+    c.new-in-MultiStep.ensures way.stages c.asks_unknown-in-MultiStep.ensures

@@ -5,9 +5,9 @@ use Rattle.planner.proofs.superresolution.plan_multi_step_upscale.Given as goal
 
 abbrev pub invariant-loop-steps : goal.invariant-loop-steps
 invariant-loop-steps l =
-    Below l.prev-size l.destination-size
-    × (vec_items l.steps ++ growing (enough l.destination-size) l.function l.prev-size l.destination-size
-    ≡ growing (enough l.destination-size) l.function l.initial.prev-size l.destination-size)
+    Below l.prev_size l.destination_size
+    × (vec_items l.steps ++ growing (enough l.destination_size) l.function l.prev_size l.destination_size
+    ≡ growing (enough l.destination_size) l.function l.initial.prev_size l.destination_size)
 
 abbrev pub decreases-loop-steps : goal.decreases-loop-steps
-decreases-loop-steps l = left l.prev-size l.destination-size
+decreases-loop-steps l = left l.prev_size l.destination_size

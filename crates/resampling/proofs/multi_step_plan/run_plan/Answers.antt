@@ -16,9 +16,9 @@ use Rattle.resampling.proofs.multi_step_plan.run_plan.Goals as goal
 blank : Stage
 blank = record { kind = Copied; function = Bilinear; source = record { width = 0; height = 0 }; target = record { width = 0; height = 0 } }
 
-pub run-stage-requires : goal.run-stage-requires
+pub run_stage-requires : goal.run_stage-requires
 unfolding blank
-run-stage-requires g c =
+run_stage-requires g c =
     let p = c.args.plan.now in
     let sts = c.stages-stages.result.now in
     let o : Settings = record { route = c.scaler.result.route; channels = c.channels.result; depth = c.args.depth } in
@@ -38,12 +38,12 @@ returns-then-last-eq0 g c =
     let sts = c.stages-stages.result.now in
     let one = only sts blank (omega arith) in
     let linked = subst (Linked p.source_size p.target_size) one c.stages-stages.ensures.chain.linked in
-    c.run-stage.ensures
+    c.run_stage.ensures
     ∙ same_value _ _ _ _ _ _ _ _ _ (get_or sts 0 blank ∷ []) _ _ _ _ _ (ap g.F.KernelFamily.meaning c.family.ensures) c.channels.ensures (sym one ∙ c.stages-stages.ensures.value) linked.0 linked.1
 
-pub run-chain-requires : goal.run-chain-requires
+pub run_chain-requires : goal.run_chain-requires
 unfolding blank
-run-chain-requires g c =
+run_chain-requires g c =
     let p = c.args.plan.now in
     let sts = c.stages-stages.result.now in
     let o : Settings = record { route = c.scaler.result.route; channels = c.channels.result; depth = c.args.depth } in
@@ -76,5 +76,5 @@ returns-else-last-eq0 g c =
     let mid = take (k - 1) (drop 1 sts) in
     let parts = split sts blank k (omega arith) (omega arith) in
     let linked = subst (Linked p.source_size p.target_size) parts c.stages-stages.ensures.chain.linked in
-    c.run-chain.ensures
+    c.run_chain.ensures
     ∙ same_value _ _ _ _ _ _ _ _ _ (h ∷ (mid ++ t ∷ [])) _ _ _ _ _ (ap g.F.KernelFamily.meaning c.family-else-last-eq0.ensures) c.channels.ensures (sym parts ∙ c.stages-stages.ensures.value) linked.0 (linked_last h.target p.target_size mid t linked.1)

@@ -3,4 +3,4 @@ use Rattle.resampling.proofs.Runs.{horizontal_run}
 use Rattle.resampling.proofs.non_alpha_plan.horizontal_convolve.Goals as goal
 
 pub returns : goal.returns
-returns g c = c.filter-rows.ensures ∙ horizontal_run (g.F.KernelFamily.meaning c.args.family.now) c.args.options c.args.src.now c.args.src_stride c.args.dst.now c.args.dst_stride c.requires.height
+returns g c = c.filter_rows.ensures ∙ horizontal_run (g.F.KernelFamily.meaning c.args.family.now) c.args.options c.args.src.now c.args.src_stride c.args.dst.now c.args.dst_stride c.requires.height

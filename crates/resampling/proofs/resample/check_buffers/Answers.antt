@@ -9,7 +9,7 @@ returns-then-first-half g c =
     let r = request_of c.args.plan.now in
     let a : ltb c.args.work (work_size r) ≡ false = grind (arith, nat_tests) in
     let b : ltb c.args.first (half_size r) ≡ true = grind (arith, nat_tests) in
-    rw (a, b, c.half-size-half.ensures)
+    rw (a, b, c.half_size-half.ensures)
 
 pub returns-then-second-half : goal.returns-then-second-half
 returns-then-second-half g c =
@@ -17,4 +17,4 @@ returns-then-second-half g c =
     let a : ltb c.args.work (work_size r) ≡ false = grind (arith, nat_tests) in
     let b : ltb c.args.first (half_size r) ≡ false = grind (arith, nat_tests) in
     let d : ltb c.args.second (half_size r) ≡ true = grind (arith, nat_tests) in
-    rw (a, b, d, c.half-size-half.ensures)
+    rw (a, b, d, c.half_size-half.ensures)

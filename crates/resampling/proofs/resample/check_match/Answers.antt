@@ -2,13 +2,13 @@ use Rattle.std.proofs.Common.{rules}
 use Rattle.history.specs.Calls.{match_answer}
 use Rattle.resampling.proofs.resample.check_match.Goals as goal
 
-pub returns-then-dst-channels-channels : goal.returns-then-dst-channels-channels
+pub returns-then-dst_channels-channels : goal.returns-then-dst_channels-channels
 unfolding match_answer
-returns-then-dst-channels-channels g c = search rules
+returns-then-dst_channels-channels g c = search rules
 
-pub returns-then-src-channels-channels : goal.returns-then-src-channels-channels
+pub returns-then-src_channels-channels : goal.returns-then-src_channels-channels
 unfolding match_answer
-returns-then-src-channels-channels g c = search rules
+returns-then-src_channels-channels g c = search rules
 
 pub returns-then-ne : goal.returns-then-ne
 unfolding match_answer

@@ -12,19 +12,19 @@ pub returns : goal.returns
 unfolding answer_of
 returns g c =
     let p = c.args.plan.now in
-    let r = c.resample-store.result in
+    let r = c.resample_store.result in
     let call = call_of (g.F.KernelFamily.meaning p.family) p whole c.args.source.now c.args.work.now c.args.first.now c.args.second.now in
     let s = sheet_of c.args.sheet.now in
-    let t = sheet_of c.resample-store.new.into in
-    let st = answered_step g.T.Element.size g.T.Element.deep call s t (reply r) (g.met.F.KernelFamily.shaped p.family) c.resample-store.ensures.reply c.resample-store.ensures.same
-    (where_granted r _ _ _ c.resample-store.ensures.after) (where_refused r _ _ _ c.resample-store.ensures.after) in
+    let t = sheet_of c.resample_store.new.into in
+    let st = answered_step g.T.Element.size g.T.Element.deep call s t (reply r) (g.met.F.KernelFamily.shaped p.family) c.resample_store.ensures.reply c.resample_store.ensures.same
+    (where_granted r _ _ _ c.resample_store.ensures.after) (where_refused r _ _ _ c.resample_store.ensures.after) in
     record {
       step = st;
       past = extends g.T.Element.size g.T.Element.deep call s t (reply r) st;
       upheld = upholds g.T.Element.size g.T.Element.deep call s t (reply r) st;
       promise = promise _;
-      after = c.resample-store.ensures.after;
-      same = c.resample-store.ensures.same;
-      place = c.resample-store.ensures.place;
-      kept = c.resample-store.ensures.kept;
+      after = c.resample_store.ensures.after;
+      same = c.resample_store.ensures.same;
+      place = c.resample_store.ensures.place;
+      kept = c.resample_store.ensures.kept;
     }

@@ -11,6 +11,6 @@ returns g c =
     let m = g.F.KernelFamily.meaning c.args.family.now in
     let src = c.args.src.now in
     let s = c.args.src_stride in
-    let same = packed_rows m o src s (g.met.F.KernelFamily.shaped c.args.family.now) c.requires.ready.source_height.0 c.requires.source (λ i. c.args.y + i) c.args.work.now c.run-on-4-columns.new.work 4 c.run-on-4-columns.ensures c.requires.work in
-    c.run-on-4-rows.ensures
-    ∙ painted_same c.args.dst.now c.args.dst_stride (row_value m o c.run-on-4-columns.new.work (source_row o)) (λ i. both_row m o src s (c.args.y + i)) 4 same
+    let same = packed_rows m o src s (g.met.F.KernelFamily.shaped c.args.family.now) c.requires.ready.source_height.0 c.requires.source (λ i. c.args.y + i) c.args.work.now c.run_on_4_columns.new.work 4 c.run_on_4_columns.ensures c.requires.work in
+    c.run_on_4_rows.ensures
+    ∙ painted_same c.args.dst.now c.args.dst_stride (row_value m o c.run_on_4_columns.new.work (source_row o)) (λ i. both_row m o src s (c.args.y + i)) 4 same

@@ -8,4 +8,4 @@ loop-i-init g c = painted_none _ _ _
 
 pub loop-i-preserved : goal.loop-i-preserved
 loop-i-preserved g c =
-    painted_more c.args.work.now c.loop-i.work c.run-on-column.new.dst (source_row c.args.options) c.loop-i.i _ _ _ c.loop-i.invariant c.row-start-to.ensures.value (search rules) (search rules)
+    painted_more c.args.work.now c.loop-i.work c.run_on_column.new.dst (source_row c.args.options) c.loop-i.i _ _ _ c.loop-i.invariant c.row_start-to.ensures.value (search rules) (search rules)

@@ -26,8 +26,8 @@ four_rows n h size l fits =
 pub loop-y-init : goal.loop-y-init
 loop-y-init g c = (omega arith, painted_none _ _ _)
 
-pub filter-4-rows-requires : goal.filter-4-rows-requires
-filter-4-rows-requires g c =
+pub filter_4_rows-requires : goal.filter_4_rows-requires
+filter_4_rows-requires g c =
     let o = c.args.options in
     let t = c.args.dst_stride in
     let h = o.dst_size.height in
@@ -37,7 +37,7 @@ filter-4-rows-requires g c =
       source = c.requires.source;
       batch = omega arith;
       work = omega (arith, four_rows (source_row o) h (length c.args.work.now) (omega arith) c.requires.work);
-      target = record { apart = c.requires.target.apart; within = simp (length-take, length-drop) (omega (arith, c.row-start-to.ensures.value)) };
+      target = record { apart = c.requires.target.apart; within = simp (length-take, length-drop) (omega (arith, c.row_start-to.ensures.value)) };
     }
 
 pub loop-y-preserved-then-height-y-ge4 : goal.loop-y-preserved-then-height-y-ge4
@@ -48,15 +48,15 @@ loop-y-preserved-then-height-y-ge4 g c =
     let far = last_of_four c.loop-y.y o.dst_size.height t (target_row o) (length c.loop-y.dst) (omega arith) (omega arith) in
     let even = both_even m o c.args.src.now c.args.src_stride (g.met.F.KernelFamily.shaped c.args.family.now) c.requires.ready.source_height.0 c.requires.source c.requires.ready.source_width.0 in (
       omega arith,
-      painted_batch c.args.dst.now c.loop-y.dst c.filter-4-rows.new.dst t c.loop-y.y _ _ 4 (both_row m o c.args.src.now c.args.src_stride) (λ i. both_row m o c.args.src.now c.args.src_stride (c.loop-y.y + i)) c.loop-y.invariant.1 c.row-start-to.ensures.value c.filter-4-rows.ensures (omega arith)
-          (λ i l. each_of_four i t _ (target_row o) _ l (even (c.loop-y.y + i)) (omega (arith, c.row-start-to.ensures.value)))
+      painted_batch c.args.dst.now c.loop-y.dst c.filter_4_rows.new.dst t c.loop-y.y _ _ 4 (both_row m o c.args.src.now c.args.src_stride) (λ i. both_row m o c.args.src.now c.args.src_stride (c.loop-y.y + i)) c.loop-y.invariant.1 c.row_start-to.ensures.value c.filter_4_rows.ensures (omega arith)
+          (λ i l. each_of_four i t _ (target_row o) _ l (even (c.loop-y.y + i)) (omega (arith, c.row_start-to.ensures.value)))
           (λ i l. refl),
     )
 
 pub loop-y-preserved : goal.loop-y-preserved
 loop-y-preserved g c = (
   omega arith,
-  painted_more c.args.dst.now c.loop-y.dst c.filter-row.new.dst c.args.dst_stride c.loop-y.y _ _ _ c.loop-y.invariant.1 c.row-start-to.ensures.value (search rules) (search rules),
+  painted_more c.args.dst.now c.loop-y.dst c.filter_row.new.dst c.args.dst_stride c.loop-y.y _ _ _ c.loop-y.invariant.1 c.row_start-to.ensures.value (search rules) (search rules),
 )
 
 pub returns : goal.returns

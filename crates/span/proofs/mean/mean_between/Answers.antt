@@ -6,11 +6,11 @@ use Rattle.levels.proofs.Along.{length-line}
 use Rattle.span.proofs.Sums.{mean_is}
 use Rattle.span.proofs.mean.mean_between.Goals as goal
 
-pub rounded-mean-requires : goal.rounded-mean-requires
-rounded-mean-requires g c =
+pub rounded_mean-requires : goal.rounded_mean-requires
+rounded_mean-requires g c =
     let k = c.args.high - c.args.low in
     let small : g.T.Level.most * k ≤ 65535 * k = mul-le-mul_right k (omega (arith, g.met.T.Level.small)) in
-    record { 0 = (omega (arith, c.sum-between-sum.ensures.bound), (omega arith, omega arith)); inverse = c.requires.inverse }
+    record { 0 = (omega (arith, c.sum_between-sum.ensures.bound), (omega arith, omega arith)); inverse = c.requires.inverse }
 
 pub returns : goal.returns
 returns g c =
@@ -20,5 +20,5 @@ returns g c =
     let whole = length-line a.src.now a.start a.step a.n c.requires.source in
     let k = a.high - a.low in
     let long : k ≡ length (part a.low k xs) = search (rules, places) in
-    let sum = c.sum-between-sum in
+    let sum = c.sum_between-sum in
     c.narrow.ensures ∙ ap t.of (mean_is t.level (part a.low k xs) sum.result k t.most c.rounded_mean.result sum.ensures.value long (omega arith) sum.ensures.bound c.rounded_mean.ensures)

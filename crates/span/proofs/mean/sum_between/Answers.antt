@@ -6,18 +6,18 @@ use Rattle.levels.proofs.Along.{place_fits, length-line, get_or-line}
 use Rattle.span.proofs.Sums.{sum_more, most_more}
 use Rattle.span.proofs.mean.sum_between.Goals as goal
 
-pub overflow-mul-i : goal.overflow-mul-i
-overflow-mul-i g c =
+pub overflow_mul-i : goal.overflow_mul-i
+overflow_mul-i g c =
     let p = place_fits c.loop-i.i c.args.n c.args.start c.args.step (length c.args.src.now) (omega arith) c.requires.source in
     search rules
 
-pub overflow-add-start : goal.overflow-add-start
-overflow-add-start g c =
+pub overflow_add-start : goal.overflow_add-start
+overflow_add-start g c =
     let p = place_fits c.loop-i.i c.args.n c.args.start c.args.step (length c.args.src.now) (omega arith) c.requires.source in
     search rules
 
-pub offset-bounds-src-start : goal.offset-bounds-src-start
-offset-bounds-src-start g c =
+pub offset_bounds-src-start : goal.offset_bounds-src-start
+offset_bounds-src-start g c =
     omega (arith, place_fits c.loop-i.i c.args.n c.args.start c.args.step (length c.args.src.now) (omega arith) c.requires.source)
 
 pub bounds-src-start : goal.bounds-src-start

@@ -3,18 +3,18 @@ use Rattle.std.proofs.lemmas.List.{get_or_read}
 use Rattle.levels.proofs.Along.{place_fits, get_or-line}
 use Rattle.tent.proofs.place.along.Goals as goal
 
-pub overflow-mul-result : goal.overflow-mul-result
-overflow-mul-result g c =
+pub overflow_mul-result : goal.overflow_mul-result
+overflow_mul-result g c =
     let p = place_fits c.args.i c.args.n c.args.start c.args.step (length c.args.src.now) c.requires.index c.requires.source in
     search rules
 
-pub overflow-add-result : goal.overflow-add-result
-overflow-add-result g c =
+pub overflow_add-result : goal.overflow_add-result
+overflow_add-result g c =
     let p = place_fits c.args.i c.args.n c.args.start c.args.step (length c.args.src.now) c.requires.index c.requires.source in
     search rules
 
-pub offset-bounds-src-start : goal.offset-bounds-src-start
-offset-bounds-src-start g c =
+pub offset_bounds-src-start : goal.offset_bounds-src-start
+offset_bounds-src-start g c =
     omega (arith, place_fits c.args.i c.args.n c.args.start c.args.step (length c.args.src.now) c.requires.index c.requires.source)
 
 pub bounds-src-start : goal.bounds-src-start

@@ -7,4 +7,4 @@ loop-y-init g c = painted_none _ _ _
 
 pub loop-y-preserved : goal.loop-y-preserved
 loop-y-preserved g c =
-    painted_more c.args.dst.now c.loop-y.dst c.run-on-column.new.dst c.args.dst_stride c.loop-y.y _ _ _ c.loop-y.invariant c.row-start-to.ensures.value (search rules) (search rules)
+    painted_more c.args.dst.now c.loop-y.dst c.run_on_column.new.dst c.args.dst_stride c.loop-y.y _ _ _ c.loop-y.invariant c.row_start-to.ensures.value (search rules) (search rules)

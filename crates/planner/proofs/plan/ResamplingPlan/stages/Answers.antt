@@ -5,9 +5,9 @@ use Rattle.planner.proofs.plan.ResamplingPlan.stages.Goals as goal
 pub returns : goal.returns
 returns g c =
     let p = c.args.self.now in
-    let value = c.as-slice.ensures.value ∙ p.stages in
+    let value = c.as_slice.ensures.value ∙ p.stages in
     record {
-      table = c.as-slice.ensures.value;
+      table = c.as_slice.ensures.value;
       value = value;
       chain = chain_at _ _ _ _ value p.sizes.0 p.sizes.1;
     }

@@ -4,8 +4,8 @@ use Rattle.levels.proofs.Along.{length-line}
 use Rattle.span.proofs.Sums.{some, within, value_is}
 use Rattle.span.proofs.mean.MeanLineKernel.element.Goals as goal
 
-pub mean-between-requires : goal.mean-between-requires
-mean-between-requires g c =
+pub mean_between-requires : goal.mean_between-requires
+mean_between-requires g c =
     let a = c.args in
     let e = c.requires.place.0 in
     let low = ap (λ q. q.0) e in
@@ -26,4 +26,4 @@ returns g c =
     let a = c.args in
     let xs = line a.src.now a.start a.step a.n in
     let long = length-line a.src.now a.start a.step a.n c.requires.source in
-    value_is t.level t.of xs a.n a.m a.x a.place.0 c.mean-between.result long c.requires.place.0 c.mean-between.ensures
+    value_is t.level t.of xs a.n a.m a.x a.place.0 c.mean_between.result long c.requires.place.0 c.mean_between.ensures

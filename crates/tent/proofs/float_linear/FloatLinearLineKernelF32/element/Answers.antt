@@ -11,8 +11,8 @@ taps-a-requires c =
     let a = c.args in
     record { source = c.requires.source; index = (index_within a.n a.m a.x a.place.0 c.requires.output (omega arith) c.requires.place, c.requires.sizes.0) }
 
-pub float-blend-requires : goal.float-blend-requires
-float-blend-requires c =
+pub float_blend-requires : goal.float_blend-requires
+float_blend-requires c =
     let a = c.args in
     (c.requires.sizes.1, remainder_within a.n a.m a.x a.place.0 c.requires.output c.requires.place)
 
