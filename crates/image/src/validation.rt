@@ -6,7 +6,7 @@ ghost use Rattle.image.specs.declared.validation.PicScaleError.TheVariants.{OutO
 use crate::image_size::ImageSize;
 use std::alloc::{AllocError, AllocFailed};
 
-#[derive(Clone, Copy)]
+#[derive(Clone, Copy, Debug)]
 pub enum PicScaleError {
     ZeroImageDimensions,
     SourceImageIsTooLarge,

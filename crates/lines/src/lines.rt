@@ -16,9 +16,9 @@ pub struct Lines<K> {
 }
 
 // The output `x` of the lines that begin at the elements 0, 1 .. of the source, as many as the target has elements.
-fn outputs<T: Element, K: LineKernel<T, Place = ((usize, usize), u64)>>(
+fn outputs<T: Element, K: LineKernel<T, Place = (usize, usize)>>(
     kernel: &K,
-    place: ((usize, usize), u64),
+    place: (usize, usize),
     src: &[T],
     step: usize,
     n: usize,
@@ -39,9 +39,9 @@ fn outputs<T: Element, K: LineKernel<T, Place = ((usize, usize), u64)>>(
 
 // The output `x` of every channel of a row of pixels of N elements. The pixel is handed back whole, so that the compiler
 // need not keep its elements apart from those of the source.
-fn pixel_of_row<T: Element, K: LineKernel<T, Place = ((usize, usize), u64)>, const N: usize>(
+fn pixel_of_row<T: Element, K: LineKernel<T, Place = (usize, usize)>, const N: usize>(
     kernel: &K,
-    place: ((usize, usize), u64),
+    place: (usize, usize),
     src: &[T],
     n: usize,
     m: usize,
@@ -71,9 +71,9 @@ fn row_start<T>(s: &[T], y: usize, stride: usize, height: usize, n: usize) -> us
 }
 
 // The output `x` of every channel of four rows of pixels of N elements.
-fn outputs_of_4_rows<T: Element, K: LineKernel<T, Place = ((usize, usize), u64)>, const N: usize>(
+fn outputs_of_4_rows<T: Element, K: LineKernel<T, Place = (usize, usize)>, const N: usize>(
     kernel: &K,
-    place: ((usize, usize), u64),
+    place: (usize, usize),
     src: &[T],
     src_stride: usize,
     n: usize,
@@ -101,7 +101,7 @@ fn outputs_of_4_rows<T: Element, K: LineKernel<T, Place = ((usize, usize), u64)>
 
 // All outputs of one row of pixels of N elements. The channels are a constant of the loops, so that the compiler can
 // write each pixel at once.
-fn row_of_pixels<T: Element, K: LineKernel<T, Place = ((usize, usize), u64)>, const N: usize>(
+fn row_of_pixels<T: Element, K: LineKernel<T, Place = (usize, usize)>, const N: usize>(
     kernel: &K,
     src: &[T],
     n: usize,
@@ -123,7 +123,7 @@ fn row_of_pixels<T: Element, K: LineKernel<T, Place = ((usize, usize), u64)>, co
 }
 
 // The same of four rows: the place of an output serves them all.
-fn four_rows_of_pixels<T: Element, K: LineKernel<T, Place = ((usize, usize), u64)>, const N: usize>(
+fn four_rows_of_pixels<T: Element, K: LineKernel<T, Place = (usize, usize)>, const N: usize>(
     kernel: &K,
     src: &[T],
     src_stride: usize,
@@ -156,8 +156,8 @@ fn four_rows_of_pixels<T: Element, K: LineKernel<T, Place = ((usize, usize), u64
     }
 }
 
-// A place is a pair of numbers, as first and last, or index and remainder, and the reciprocal of a divisor.
-impl<T: Element, K: LineKernel<T, Place = ((usize, usize), u64)>> KernelFamily<T> for Lines<K> {
+// A place is a pair of numbers, as first and last, or index and remainder.
+impl<T: Element, K: LineKernel<T, Place = (usize, usize)>> KernelFamily<T> for Lines<K> {
     ghost meaning = { λ s. line_meaning K.LineKernel.knows K.LineKernel.value };
 
     ghost fours = { K.LineKernel.fours };

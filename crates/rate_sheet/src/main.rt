@@ -23,6 +23,7 @@ const PITCH: usize = 26;
 const DEPTH: usize = 8;
 
 // Why the sheet could not be made or written out.
+#[derive(Debug, Drop)]
 enum SheetError {
     Refused(PicScaleError),
     NoMemory(AllocError),

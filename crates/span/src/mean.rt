@@ -1,13 +1,12 @@
 // The line kernel of Span.
-ghost use Rattle.std.specs.Prelude.{◌≡◌, ℕ, ◌+◌, ◌-◌, ◌*◌, ◌<◌, ◌≤◌, false, length, sum_by};
+ghost use Rattle.std.specs.Prelude.{◌≡◌, ℕ, ◌+◌, ◌-◌, ◌*◌, ◌^◌, ◌<◌, ◌≤◌, false, length, sum_by};
 ghost use Rattle.image.specs.Rows.{part};
 ghost use Rattle.convolution.specs.Meaning.{Dimension};
 ghost use Rattle.lines.specs.Lines.{line};
-ghost use Rattle.levels.specs.Quotients.{reciprocal as parts};
 ghost use Rattle.span.specs.Span.{span_knows, span_bounds, rounded_mean, span_mean, span_value};
 ghost use Rattle.std.proofs.Common.{rules};
 
-use levels::{Level, reciprocal, scaled};
+use levels::Level;
 use lines::LineKernel;
 use sampler::ResamplingFunction;
 
@@ -46,13 +45,11 @@ fn sum_between<T: Level>(
     sum
 }
 
-// `inverse` is the reciprocal of `2 * count`.
-fn rounded_mean(sum: u64, count: u64, inverse: u64) -> u64
-    requires sum_bound { (sum ≤ 65535 * count) × Dimension count }
-    requires inverse { inverse ≡ parts (2 * count) }
+fn rounded_mean(sum: u64, count: u64) -> u64
+    requires { (sum < 2 ^ 32) × Dimension count }
     ensures { result ≡ rounded_mean sum count }
 {
-    scaled(2 * sum + count, inverse)
+    (2 * sum + count) / (2 * count)
 }
 
 // The mean of the levels from element `low` up to `high`.
@@ -63,23 +60,21 @@ fn mean_between<T: Level>(
     n: usize,
     low: usize,
     high: usize,
-    inverse: u64,
 ) -> T
-    requires inverse { inverse ≡ parts (2 * (high - low)) }
     requires source { start + step * (n - 1) < length src.now }
     requires bounds { (low < high) × (high ≤ n) × Dimension n }
     ensures { result ≡ T.Level.of (span_mean T.Level.level (part low (high - low) (line src.now start step n))) }
 {
     let sum = sum_between(src, start, step, n, low, high);
-    T::narrow(rounded_mean(sum, (high - low) as u64, inverse))
+    T::narrow(rounded_mean(sum, (high - low) as u64))
 }
 
 #[derive(Drop)]
 pub struct Mean {}
 
 impl<T: Level> LineKernel<T> for Mean {
-    // The bounds of the span, and the reciprocal of twice its length.
-    type Place = ((usize, usize), u64);
+    // The bounds of the span.
+    type Place = (usize, usize);
 
     ghost knows = { span_knows };
 
@@ -87,7 +82,7 @@ impl<T: Level> LineKernel<T> for Mean {
 
     ghost value = { span_value T.Level.level T.Level.of };
 
-    ghost placed = { λ n m x p. (p.0 ≡ span_bounds n m x) × (p.1 ≡ parts (2 * (p.0.1 - p.0.0))) };
+    ghost placed = { λ n m x p. p ≡ span_bounds n m x };
 
     ghost one = { Prim.search rules };
 
@@ -102,14 +97,13 @@ impl<T: Level> LineKernel<T> for Mean {
         false
     }
 
-    fn place(&self, n: usize, m: usize, x: usize) -> ((usize, usize), u64) {
-        let (low, high) = span_bounds(n as u16, m as u16, x as u16);
-        ((low, high), reciprocal(2 * (high - low) as u64))
+    fn place(&self, n: usize, m: usize, x: usize) -> (usize, usize) {
+        span_bounds(n as u16, m as u16, x as u16)
     }
 
     fn element(
         &self,
-        place: ((usize, usize), u64),
+        place: (usize, usize),
         src: &[T],
         start: usize,
         step: usize,
@@ -117,7 +111,7 @@ impl<T: Level> LineKernel<T> for Mean {
         m: usize,
         x: usize,
     ) -> T {
-        let ((low, high), inverse) = place;
-        mean_between(src, start, step, n, low, high, inverse)
+        let (low, high) = place;
+        mean_between(src, start, step, n, low, high)
     }
 }

@@ -1,5 +1,5 @@
 -- An output's index lies within its line, and its value between its two elements.
-use Rattle.std.proofs.Common.{◌≡◌, ℕ, suc, ◌+◌, ◌-◌, ◌*◌, ◌%◌, ◌<◌, ◌≤◌, min, List, [], ◌∷◌, length, get_or, sym, ap, ◌∙◌, mul-le-mul_right, mod-eq_of_lt, suc-mul, mul_comm, mul-add, arith}
+use Rattle.std.proofs.Common.{◌≡◌, ℕ, suc, ◌+◌, ◌-◌, ◌*◌, ◌/◌, ◌%◌, ◌<◌, ◌≤◌, min, List, [], ◌∷◌, length, get_or, sym, ap, ◌∙◌, mul-le-mul_right, mod-eq_of_lt, suc-mul, mul_comm, mul-le-mul_left, mul-add, arith}
 use Rattle.std.proofs.lemmas.Nat.{div_below, mod_below}
 use Rattle.tent.specs.Tent.{tent_distance, tent_place, tent_blend, tent_between}
 
@@ -14,7 +14,7 @@ index_within n m x p h l e =
 pub remainder_within : (n m x : ℕ) (p : ℕ × ℕ) → x < m → p ≡ tent_place n m x → p.1 < 2 * m
 remainder_within n m x p h e = omega (arith, ap (λ q. q.1) e, mod_below (tent_distance n m x) (2 * m) (omega arith))
 
-pub mixed : (a b d m f most : ℕ) → a ≤ most → b ≤ most → f < d → m < d → a * (d - f) + b * f + m < suc most * d
+mixed : (a b d m f most : ℕ) → a ≤ most → b ≤ most → f < d → m < d → a * (d - f) + b * f + m < suc most * d
 mixed a b d m f most ha hb h s =
     let whole : most * (d - f) + most * f ≡ most * d = sym (mul-add most (d - f) f) ∙ ap (λ e. most * e) (omega arith) in
     omega (arith, mul-le-mul_right (d - f) ha, mul-le-mul_right f hb, suc-mul most d, whole)

@@ -21,8 +21,8 @@ fn float_blend(a: f32, b: f32, m: usize, f: usize) -> f32
 pub struct FloatLinear {}
 
 impl LineKernel<f32> for FloatLinear {
-    // Index and remainder; no reciprocal, since two quotients are rounded by themselves.
-    type Place = ((usize, usize), u64);
+    // Index and remainder.
+    type Place = (usize, usize);
 
     ghost knows = { tent_knows };
 
@@ -30,7 +30,7 @@ impl LineKernel<f32> for FloatLinear {
 
     ghost value = { float_value };
 
-    ghost placed = { λ n m x p. p.0 ≡ tent_place n m x };
+    ghost placed = { λ n m x p. p ≡ tent_place n m x };
 
     ghost one = { Prim.search rules };
 
@@ -45,13 +45,13 @@ impl LineKernel<f32> for FloatLinear {
         true
     }
 
-    fn place(&self, n: usize, m: usize, x: usize) -> ((usize, usize), u64) {
-        (tent_place(n as u16, m as u16, x as u16), 0)
+    fn place(&self, n: usize, m: usize, x: usize) -> (usize, usize) {
+        tent_place(n as u16, m as u16, x as u16)
     }
 
     fn element(
         &self,
-        place: ((usize, usize), u64),
+        place: (usize, usize),
         src: &[f32],
         start: usize,
         step: usize,
@@ -59,7 +59,7 @@ impl LineKernel<f32> for FloatLinear {
         m: usize,
         x: usize,
     ) -> f32 {
-        let ((i, f), _) = place;
+        let (i, f) = place;
         let (a, b) = taps(src, start, step, n, i);
         float_blend(a, b, m, f)
     }

@@ -1,38 +1,35 @@
 // The line kernel of Tent on whole numbers.
 ghost use Rattle.std.specs.Prelude.{◌≡◌, ◌*◌, ◌^◌, ◌<◌, true};
 ghost use Rattle.convolution.specs.Meaning.{Dimension};
-ghost use Rattle.levels.specs.Quotients.{reciprocal as parts};
 ghost use Rattle.tent.specs.Tent.{tent_knows, tent_place, tent_blend, tent_value};
 ghost use Rattle.std.proofs.Common.{rules};
 
 use crate::place::{taps, tent_place};
-use levels::{Level, reciprocal, scaled};
+use levels::Level;
 use lines::LineKernel;
 use sampler::ResamplingFunction;
 
-// Between two levels, `f` steps of `2 * m` on; `inverse` is the reciprocal of `2 * m`.
-fn blend_levels(a: u64, b: u64, m: u64, f: u64, inverse: u64) -> u64
-    requires a_bound { (a < 2 ^ 16) × (b < 2 ^ 16) × Dimension m × (f < 2 * m) }
-    requires inverse { inverse ≡ parts (2 * m) }
+// Between two levels, `f` steps of `2 * m` on.
+fn blend_levels(a: u64, b: u64, m: u64, f: u64) -> u64
+    requires { (a < 2 ^ 16) × (b < 2 ^ 16) × Dimension m × (f < 2 * m) }
     ensures { result ≡ tent_blend a b m f }
 {
-    scaled(a * (2 * m - f) + b * f + m, inverse)
+    (a * (2 * m - f) + b * f + m) / (2 * m)
 }
 
-fn blend<T: Level>(a: T, b: T, m: usize, f: usize, inverse: u64) -> T
-    requires dimension { Dimension m × (f < 2 * m) }
-    requires inverse { inverse ≡ parts (2 * m) }
+fn blend<T: Level>(a: T, b: T, m: usize, f: usize) -> T
+    requires { Dimension m × (f < 2 * m) }
     ensures { result ≡ T.Level.of (tent_blend (T.Level.level a) (T.Level.level b) m f) }
 {
-    T::narrow(blend_levels(a.wide(), b.wide(), m as u64, f as u64, inverse))
+    T::narrow(blend_levels(a.wide(), b.wide(), m as u64, f as u64))
 }
 
 #[derive(Drop)]
 pub struct Linear {}
 
 impl<T: Level> LineKernel<T> for Linear {
-    // Index and remainder, and the reciprocal of `2 * m`.
-    type Place = ((usize, usize), u64);
+    // Index and remainder.
+    type Place = (usize, usize);
 
     ghost knows = { tent_knows };
 
@@ -40,7 +37,7 @@ impl<T: Level> LineKernel<T> for Linear {
 
     ghost value = { tent_value T.Level.level T.Level.of };
 
-    ghost placed = { λ n m x p. (p.0 ≡ tent_place n m x) × (p.1 ≡ parts (2 * m)) };
+    ghost placed = { λ n m x p. p ≡ tent_place n m x };
 
     ghost one = { Prim.search rules };
 
@@ -55,16 +52,13 @@ impl<T: Level> LineKernel<T> for Linear {
         true
     }
 
-    fn place(&self, n: usize, m: usize, x: usize) -> ((usize, usize), u64) {
-        (
-            tent_place(n as u16, m as u16, x as u16),
-            reciprocal(2 * m as u64),
-        )
+    fn place(&self, n: usize, m: usize, x: usize) -> (usize, usize) {
+        tent_place(n as u16, m as u16, x as u16)
     }
 
     fn element(
         &self,
-        place: ((usize, usize), u64),
+        place: (usize, usize),
         src: &[T],
         start: usize,
         step: usize,
@@ -72,8 +66,8 @@ impl<T: Level> LineKernel<T> for Linear {
         m: usize,
         x: usize,
     ) -> T {
-        let ((i, f), inverse) = place;
+        let (i, f) = place;
         let (a, b) = taps(src, start, step, n, i);
-        blend(a, b, m, f, inverse)
+        blend(a, b, m, f)
     }
 }

@@ -12,8 +12,8 @@ pixel_of_row-pixel-requires g c =
     let few : g.row.N ≤ length c.args.src.now = omega (arith, packed c.args.n g.row.N c.requires.sizes.0.0, c.requires.source) in
     (lt_of_le_of_lt (mul-le-mul_right _ few) (search rules), (c.requires.place, (c.requires.sizes, (c.requires.output, (c.requires.channels.0, from)))))
 
-pub shared-whole-as_slice·copy_from_slice : goal.shared-whole-as_slice·copy_from_slice
-shared-whole-as_slice·copy_from_slice g c =
+pub shared_whole_as_slice-copy_from_slice : goal.shared_whole_as_slice-copy_from_slice
+shared_whole_as_slice-copy_from_slice g c =
     let few : g.row.N ≤ length c.args.src.now = omega (arith, packed c.args.n g.row.N c.requires.sizes.0.0, c.requires.source) in
     lt_of_le_of_lt (mul-le-mul_right _ few) (search rules)
 

@@ -1,16 +1,10 @@
-use Rattle.std.proofs.Common.{◌≡◌, ◌-◌, ◌*◌, ◌≤◌, length, ap, ◌∙◌, mul-le-mul_right, arith, rules}
+use Rattle.std.proofs.Common.{◌≡◌, ◌-◌, length, ap, ◌∙◌, arith, rules}
 use Rattle.std.proofs.lemmas.List.{places}
 use Rattle.image.specs.Rows.{part}
 use Rattle.lines.specs.Lines.{line}
 use Rattle.levels.proofs.Along.{length-line}
 use Rattle.span.proofs.Sums.{mean_is}
 use Rattle.span.proofs.mean.mean_between.Goals as goal
-
-pub rounded_mean-requires : goal.rounded_mean-requires
-rounded_mean-requires g c =
-    let k = c.args.high - c.args.low in
-    let small : g.T.Level.most * k ≤ 65535 * k = mul-le-mul_right k (omega (arith, g.met.T.Level.small)) in
-    record { 0 = (omega (arith, c.sum_between-sum.ensures.bound), (omega arith, omega arith)); inverse = c.requires.inverse }
 
 pub returns : goal.returns
 returns g c =
