@@ -1,6 +1,6 @@
 /* The calls of the resizer for programs in other languages.
  *
- * Link target/staticlib/libboundary.a, which `rt staticlib boundary` makes, and librattle_c.a of the toolchain.
+ * Link crates/boundary/out/libboundary.a, which `bindings/library` makes, and liblibc_c.a of the toolchain.
  *
  * Every call returns 0 where it is granted, else the number of its refusal (docs/REFUSALS.md). The values that the
  * refusal carries are written to `told`; those that it does not carry, and all of them where the call is granted, are

@@ -1,4 +1,4 @@
-// Finds the archive that `rt staticlib boundary` made, and the toolchain's own C library.
+// Finds the archive that `rt lib` made in crates/boundary, and the toolchain's own C library.
 use std::path::Path;
 use std::process::Command;
 
@@ -6,8 +6,8 @@ fn main() {
     let root = Path::new(env!("CARGO_MANIFEST_DIR")).join("../..").canonicalize().expect("the repository");
     let doc = Command::new("rt").arg("doc").output().expect("rt, of the Rattle toolchain, on the PATH").stdout;
     let doc = String::from_utf8(doc).expect("a path");
-    let kit = Path::new(doc.trim()).parent().and_then(Path::parent).expect("the toolchain's folder").to_path_buf();
-    println!("cargo:rustc-link-search=native={}", root.join("target/staticlib").display());
-    println!("cargo:rustc-link-search=native={}", kit.join("lib").display());
-    println!("cargo:rerun-if-changed={}", root.join("target/staticlib/libboundary.a").display());
+    let kit = Path::new(doc.trim()).parent().expect("the toolchain's folder").to_path_buf();
+    println!("cargo:rustc-link-search=native={}", root.join("crates/boundary/out").display());
+    println!("cargo:rustc-link-search=native={}", kit.join("c").display());
+    println!("cargo:rerun-if-changed={}", root.join("crates/boundary/out/libboundary.a").display());
 }

@@ -132,7 +132,7 @@ pub trait Family: sealed::Sealed {
 macro_rules! families {
     ($($(#[$doc:meta])* $name:ident of $t:ident: $plan:ident $resample:ident $window:ident $crop:ident;)*) => {
         #[link(name = "boundary", kind = "static")]
-        #[link(name = "rattle_c", kind = "static")]
+        #[link(name = "libc_c", kind = "static")]
         unsafe extern "C" {$(
             fn $plan(request: &Request, number: usize, plan: &mut Plan, stage: &mut Stage, told: &mut Values) -> usize;
             fn $resample(

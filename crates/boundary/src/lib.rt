@@ -1,2 +1,8 @@
 // The functions that a static library exports, as bindings/c/japotuhe.h declares them.
-pub mod exports;
+#![tactic(auto)]
+
+pub mod exports_f32;
+pub mod exports_u16;
+pub mod exports_u16_limited;
+pub mod exports_u8;
+mod families;

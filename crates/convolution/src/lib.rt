@@ -1,4 +1,6 @@
 // Kernel families: the interface between the engine and whatever weighs pixels.
+#![tactic(auto)]
+
 pub mod convolution;
 
 pub use convolution::{ConvolutionOptions, KernelFamily};

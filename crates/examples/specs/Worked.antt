@@ -1,6 +1,5 @@
 -- Examples worked by hand, of stores, stages, families and plans: what the definitions give.
-use Rattle.std.specs.Prelude.{true, false, List, [], ◌∷◌, ◌++◌, ◌≡◌, ℕ}
-use Rattle.image.specs.Refusals.{Answer}
+use Rattle.std.specs.Prelude.{true, false, [], ◌∷◌, ◌++◌, ◌≡◌, ℕ}
 use Rattle.image.specs.Refusals.Answer.{granted, refused}
 use Rattle.image.specs.Stores.{Numbers, source_answer}
 use Rattle.image.specs.declared.image_size.ImageSize.{ImageSize}

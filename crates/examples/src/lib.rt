@@ -1,4 +1,6 @@
 // The worked examples, as one theorem about the definitions.
+#![tactic(auto)]
+
 ghost use Rattle.examples.specs.Worked.{Worked};
 
 pub fn worked_examples() -> u8

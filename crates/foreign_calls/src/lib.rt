@@ -1,4 +1,6 @@
 // The calls for programs outside of Rattle, on numbers and slices only, for every element type and family.
+#![tactic(auto)]
+
 pub mod answers;
 pub mod calls;
 pub mod requests;

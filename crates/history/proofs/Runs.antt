@@ -4,7 +4,7 @@ use Rattle.image.specs.Refusals.{Answer}
 use Rattle.image.specs.Refusals.Answer.{granted, refused}
 use Rattle.convolution.specs.Meaning.{Shaped}
 use Rattle.history.specs.Calls.{Call, Store, plan_value, answer_to, Step}
-use Rattle.history.specs.Past.{Entry, calls}
+use Rattle.history.specs.Past.{Entry}
 use Rattle.history.specs.Past.Past.{fresh, next}
 use Rattle.history.specs.Promise.{RunsExist, Promise}
 use Rattle.history.proofs.Windows.{stamped}

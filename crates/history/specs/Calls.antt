@@ -1,5 +1,5 @@
 -- Calls on a sheet: what each answers, which pixels it is over, and what is due there.
-use Rattle.std.specs.Prelude.{◌≡◌, ℕ, ◌+◌, ◌-◌, ◌*◌, ◌<◌, Bool, true, false, cond, not, ◌&&◌, ◌||◌, List, [], ◌∷◌, length, ◌==◌, ◌≢◌, nat_le, nat_lt, slice_index_or}
+use Rattle.std.specs.Prelude.{◌≡◌, ℕ, ◌+◌, ◌-◌, ◌<◌, Bool, true, false, cond, not, ◌&&◌, ◌||◌, List, [], ◌∷◌, length, ◌==◌, ◌≢◌, nat_le, nat_lt, slice_index_or}
 use Rattle.image.specs.declared.image_size.ImageSize.{ImageSize}
 use Rattle.image.specs.Refusals.{Answer, Check, check, answer, and_then}
 use Rattle.image.specs.Refusals.Answer.{granted, refused}

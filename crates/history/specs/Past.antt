@@ -1,5 +1,5 @@
 -- The past of a sheet: its making, and after that calls, one after the other.
-use Rattle.std.specs.Prelude.{◌≡◌, ℕ, suc, ◌+◌, ◌*◌, ◌/◌, ◌%◌, ◌<◌, Bool, true, false, List, [], ◌∷◌, ◌++◌, length, ◌≢◌, slice_index_or}
+use Rattle.std.specs.Prelude.{◌≡◌, ℕ, suc, ◌+◌, ◌*◌, ◌/◌, ◌%◌, ◌<◌, Bool, true, false, List, [], ◌∷◌, length, ◌≢◌, slice_index_or}
 use Rattle.image.specs.Refusals.{Answer}
 use Rattle.image.specs.Stores.{place, pixel}
 use Rattle.history.specs.Calls.{Store, Call, answer_to, over, due, Step}

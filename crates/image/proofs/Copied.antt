@@ -1,7 +1,7 @@
 -- A copy of the rows of a source lays its image into a destination of the same size.
-use Rattle.std.proofs.Common.{◌≡◌, ℕ, ◌+◌, ◌-◌, ◌*◌, ◌<◌, ◌≤◌, List, [], length, sym, refl, ap, ◌∙◌, subst, arith}
-use Rattle.image.specs.Rows.{part, row, rows, painted}
-use Rattle.image.specs.Stores.{Numbers, pitch, row_length, needed, image, laid, LaidOn}
+use Rattle.std.proofs.Common.{◌≡◌, ℕ, ◌+◌, ◌-◌, ◌*◌, ◌<◌, ◌≤◌, List, length, sym, ap, ◌∙◌, subst, arith}
+use Rattle.image.specs.Rows.{row, rows, painted}
+use Rattle.image.specs.Stores.{Numbers, pitch, row_length, image, laid, LaidOn}
 use Rattle.image.proofs.Granted.{Sound, SameSize}
 use Rattle.image.proofs.RowsOf.{length-rows, rows_even}
 use Rattle.image.proofs.Laid.{laid_on}

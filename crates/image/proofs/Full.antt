@@ -1,7 +1,7 @@
 -- Rows without gaps, over the whole of a buffer.
-use Rattle.std.proofs.Common.{◌≡◌, ℕ, zero, suc, ◌+◌, ◌-◌, ◌*◌, ◌<◌, ◌≤◌, List, [], ◌∷◌, ◌++◌, length, take, drop, sym, refl, ap, ◌∙◌, append_assoc, append-nil, mul-le-mul_right, suc-mul, add_comm, zero-mul, add-one, arith, length-append, rules}
-use Rattle.std.proofs.lemmas.List.{places, take_at, drop-drop, drop_at, drop_all}
-use Rattle.image.specs.Rows.{part, put, painted, joined}
+use Rattle.std.proofs.Common.{◌≡◌, ℕ, zero, suc, ◌+◌, ◌*◌, ◌<◌, ◌≤◌, List, ◌++◌, length, take, drop, sym, ap, ◌∙◌, append_assoc, append-nil, suc-mul, zero-mul, arith, length-append}
+use Rattle.std.proofs.lemmas.List.{take_at, drop-drop, drop_at, drop_all}
+use Rattle.image.specs.Rows.{painted, joined}
 
 module _ {X : Type 0} where
   pub length-joined : (v : ℕ → List X) (s h : ℕ) → ((y : ℕ) → y < h → length (v y) ≡ s) → length (joined v h) ≡ h * s

@@ -1,5 +1,5 @@
 -- What a granted check shows of a store and of a part of it.
-use Rattle.std.proofs.Common.{◌≡◌, ℕ, ◌+◌, ◌-◌, ◌*◌, ◌<◌, ◌≤◌, Bool, true, false, cond, not, ◌&&◌, ◌||◌, eqb, ltb, List, [], ◌∷◌, sym, refl, mul-le-mul_right, mul_comm, add-mul, mul-le-mul_left, mul-add, le-mul_of_pos_right, arith}
+use Rattle.std.proofs.Common.{◌≡◌, ℕ, ◌+◌, ◌-◌, ◌*◌, ◌<◌, ◌≤◌, Bool, true, false, cond, not, ◌&&◌, ◌||◌, eqb, ltb, List, [], ◌∷◌, refl, mul-le-mul_right, mul_comm, add-mul, mul-le-mul_left, mul-add, le-mul_of_pos_right, arith}
 use Rattle.std.proofs.lemmas.Bool.Decides.{nat_tests}
 use Rattle.image.specs.Refusals.{Answer, Check, answer, and_then}
 use Rattle.image.specs.Refusals.Answer.{granted, refused}

@@ -1,10 +1,10 @@
 -- A buffer with an image laid into a sound store over it shows the image's pixels, and is as it was elsewhere.
-use Rattle.std.proofs.Common.{◌≡◌, ℕ, ◌+◌, ◌-◌, ◌*◌, ◌/◌, ◌%◌, ◌<◌, ◌≤◌, ◌⊎◌, List, [], length, get_or, take, drop, sym, refl, ap, ◌∙◌, inl, inr, ⊎_elim, add_assoc, mul-le-mul_right, mod-lt, add-mul, one-mul, div-add-mod', arith, rules}
+use Rattle.std.proofs.Common.{◌≡◌, ℕ, ◌+◌, ◌-◌, ◌*◌, ◌/◌, ◌%◌, ◌<◌, ◌≤◌, ◌⊎◌, List, length, get_or, sym, ap, ◌∙◌, inl, inr, ⊎_elim, mul-le-mul_right, mod-lt, add-mul, one-mul, div-add-mod', arith, rules}
 use Rattle.std.proofs.lemmas.List.{places, same_lists}
 use Rattle.std.proofs.lemmas.Bool.{cases_lt}
 use Rattle.std.proofs.lemmas.Nat.{div_below}
-use Rattle.image.specs.Rows.{part, row, painted}
-use Rattle.image.specs.Stores.{Numbers, pitch, row_length, needed, place, laid, pixel, image_pixel, LaidOn}
+use Rattle.image.specs.Rows.{part, row}
+use Rattle.image.specs.Stores.{Numbers, pitch, row_length, place, laid, pixel, image_pixel, LaidOn}
 use Rattle.image.proofs.Granted.{Sound}
 use Rattle.image.proofs.Strides.{row_fits}
 use Rattle.image.proofs.Painted.{length-painted, row-painted, gap_painted}

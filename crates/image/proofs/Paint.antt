@@ -1,5 +1,5 @@
 -- The steps of a loop that writes row after row.
-use Rattle.std.proofs.Common.{◌≡◌, ℕ, suc, ◌+◌, ◌*◌, List, ◌++◌, length, take, drop, sym, refl, ap, ◌∙◌, add-one, drop-drop}
+use Rattle.std.proofs.Common.{◌≡◌, ℕ, ◌+◌, ◌*◌, List, ◌++◌, length, take, drop, refl, ap, ◌∙◌, add-one, drop-drop}
 use borrow.Rule.Slice.PartMut.{put_mid}
 use Rattle.image.specs.Rows.{put, painted}
 

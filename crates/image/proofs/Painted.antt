@@ -1,6 +1,6 @@
 -- What a buffer holds after rows were written into it.
-use Rattle.std.proofs.Common.{◌≡◌, ℕ, zero, suc, ◌+◌, ◌-◌, ◌*◌, ◌<◌, ◌≤◌, ◌⊎◌, List, ◌++◌, length, get_or, take, drop, sym, refl, ap, ◌∙◌, subst, inl, inr, ⊎_elim, add-zero, add-suc, mul-le-mul_right, suc-mul, add-mul, zero-mul, add-one, arith, rules}
-use Rattle.std.proofs.lemmas.List.{places, same_lists}
+use Rattle.std.proofs.Common.{◌≡◌, ℕ, zero, suc, ◌+◌, ◌*◌, ◌<◌, ◌≤◌, ◌⊎◌, List, length, get_or, sym, refl, ap, ◌∙◌, ⊎_elim, add-zero, add-suc, mul-le-mul_right, suc-mul, add-mul, arith, rules}
+use Rattle.std.proofs.lemmas.List.{places}
 use Rattle.std.proofs.lemmas.Bool.{cases_lt}
 use borrow.Rule.Slice.PartMut.{put_mid}
 use Rattle.image.specs.Rows.{part, put, painted}

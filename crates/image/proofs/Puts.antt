@@ -1,7 +1,7 @@
 -- What a list holds after a part is written.
-use Rattle.std.proofs.Common.{◌≡◌, ℕ, zero, suc, ◌+◌, ◌-◌, ◌*◌, ◌<◌, ◌≤◌, ◌⊎◌, List, ◌++◌, length, get_or, take, drop, sym, refl, ap, ◌∙◌, inl, inr, arith, rules}
+use Rattle.std.proofs.Common.{◌≡◌, ℕ, ◌+◌, ◌<◌, ◌≤◌, List, length, get_or, arith, rules}
 use Rattle.std.proofs.lemmas.List.{places, same_lists}
-use Rattle.image.specs.Rows.{part, put, painted}
+use Rattle.image.specs.Rows.{part, put}
 
 module _ {X : Type 0} where
   pub length-put : (k : ℕ) (ys xs : List X) → k + length ys ≤ length xs → length (put k ys xs) ≡ length xs

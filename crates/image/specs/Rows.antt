@@ -1,5 +1,5 @@
 -- Rows in a buffer, and a buffer after rows were written into it.
-use Rattle.std.specs.Prelude.{ℕ, zero, suc, ◌+◌, ◌*◌, List, [], ◌∷◌, ◌++◌, map, length, take, drop, slice_index_or}
+use Rattle.std.specs.Prelude.{ℕ, zero, suc, ◌+◌, ◌*◌, List, [], ◌++◌, map, length, take, drop, slice_index_or}
 use Rattle.std.specs.List.{range_with_len}
 
 module _ {E : Type 0} where

@@ -1,5 +1,5 @@
 -- Stores: their numbers, their pixels, and the checks on them.
-use Rattle.std.specs.Prelude.{◌≡◌, ℕ, ◌+◌, ◌-◌, ◌*◌, ◌^◌, ◌<◌, Bool, cond, not, ◌&&◌, ◌||◌, List, [], ◌∷◌, length, ◌==◌, ◌≢◌, nat_lt, slice_index_or}
+use Rattle.std.specs.Prelude.{◌≡◌, ℕ, ◌+◌, ◌-◌, ◌*◌, ◌^◌, ◌<◌, cond, not, ◌&&◌, ◌||◌, List, [], ◌∷◌, length, ◌==◌, ◌≢◌, nat_lt, slice_index_or}
 use Rattle.image.specs.declared.image_store.ImageStore.{ImageStore}
 use Rattle.image.specs.declared.image_store.ImageStoreMut.{ImageStoreMut}
 use Rattle.image.specs.Refusals.{Answer, Check, check, answer, and_then}

@@ -1,4 +1,6 @@
 // Images over the caller's buffers: sizes, element types, refusals, stores and their checks.
+#![tactic(auto)]
+
 pub mod element;
 pub mod image_size;
 pub mod image_store;

@@ -1,5 +1,5 @@
 -- What the layers mean, by what the families below them mean.
-use Rattle.std.specs.Prelude.{ℕ, ◌-◌, ◌^◌, min, Bool, cond, ◌||◌, List, map}
+use Rattle.std.specs.Prelude.{ℕ, ◌-◌, ◌^◌, min, cond, ◌||◌, map}
 use Rattle.convolution.specs.Meaning.{Meaning}
 
 -- a layer of two: it knows what either knows, and the first that knows a function supplies its values

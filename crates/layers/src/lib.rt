@@ -1,4 +1,6 @@
 // Layers over families; a layer over layers is again a family.
+#![tactic(auto)]
+
 pub mod limit;
 pub mod pair;
 

@@ -1,4 +1,6 @@
 // Elements that are whole numbers.
+#![tactic(auto)]
+
 pub mod level;
 pub mod quotient;
 pub mod u16_level;

@@ -1,4 +1,6 @@
 // Families over lines: each output element comes from the elements of one channel along one axis.
+#![tactic(auto)]
+
 pub mod line_kernel;
 pub mod lines;
 

@@ -1,9 +1,9 @@
 -- Images without gaps of a plan's sizes pass every check of a resample.
-use Rattle.std.proofs.Common.{◌≡◌, ℕ, zero, suc, ◌+◌, ◌-◌, ◌*◌, ◌^◌, ◌<◌, ◌≤◌, min, Bool, true, false, cond, not, ◌&&◌, ◌||◌, eqb, ltb, ◌⊎◌, List, [], ◌∷◌, length, sym, refl, ap, ◌∙◌, subst, inl, inr, mul_assoc, mul_comm, mul-le-mul, mul-zero, mul-one, arith}
+use Rattle.std.proofs.Common.{◌≡◌, ℕ, zero, suc, ◌+◌, ◌-◌, ◌*◌, ◌^◌, ◌<◌, ◌≤◌, min, true, false, ◌||◌, eqb, ltb, List, length, refl, ap, ◌∙◌, inl, inr, mul_assoc, mul_comm, mul-le-mul, mul-zero, mul-one, arith}
 use Rattle.std.proofs.lemmas.Bool.Decides.{nat_tests}
 use Rattle.std.proofs.lemmas.Bool.{cases_Bool}
-use Rattle.image.specs.Refusals.{Answer, answer, and_then}
-use Rattle.image.specs.Refusals.Answer.{granted, refused}
+use Rattle.image.specs.Refusals.{answer}
+use Rattle.image.specs.Refusals.Answer.{granted}
 use Rattle.image.specs.Rows.{row, joined}
 use Rattle.image.specs.Stores.{store_checks, source_answer, target_answer, laid}
 use Rattle.image.proofs.Full.{painted_full}
@@ -15,7 +15,7 @@ use Rattle.planner.specs.Plan.{plan_work, plan_half}
 use Rattle.planner.specs.Plans.{area}
 use Rattle.planner.specs.Chains.{Dimensions}
 use Rattle.planner.specs.Stages.{same_size}
-use Rattle.history.specs.Calls.{Request, work_size, half_size, match_answer, buffer_answer, buffer_checks, answer_of, answer_to, plan_value}
+use Rattle.history.specs.Calls.{Request, work_size, half_size, match_answer, buffer_answer, answer_of, answer_to, plan_value}
 use Rattle.values.proofs.Plans.{plan_sized}
 use Rattle.resampling.specs.Seen.{request_of}
 use Rattle.resampling.proofs.Resampled.{joined_three}

@@ -1,4 +1,6 @@
 // Orders: one resize, from its bytes to its rows.
+#![tactic(auto)]
+
 pub mod order;
 pub mod resizing;
 

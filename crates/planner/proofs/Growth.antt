@@ -1,11 +1,11 @@
 -- One stage of enlarging: how far it goes, and that stages follow until both axes have the target. Assumes nothing.
-use Rattle.std.proofs.Common.{◌≡◌, ℕ, zero, suc, ◌+◌, ◌-◌, ◌*◌, ◌/◌, ◌<◌, ◌≤◌, min, Bool, true, false, cond, ◌&&◌, eqb, leb, ◌⊎◌, List, [], ◌∷◌, ◌++◌, sym, refl, ap, ◌∙◌, inl, inr, append_assoc, mul-le-mul_left, arith}
-use Rattle.std.proofs.lemmas.Bool.{cases_Bool, and_parts, and_cases, eqb-true, eqb-false, leb-true}
+use Rattle.std.proofs.Common.{◌≡◌, ℕ, zero, suc, ◌+◌, ◌-◌, ◌*◌, ◌/◌, ◌<◌, ◌≤◌, min, true, false, eqb, ◌⊎◌, List, [], ◌∷◌, ◌++◌, sym, refl, ap, ◌∙◌, inl, inr, append_assoc, mul-le-mul_left, arith}
+use Rattle.std.proofs.lemmas.Bool.{cases_Bool, and_parts, and_cases, eqb-true, eqb-false}
 use Rattle.image.specs.declared.image_size.ImageSize.{ImageSize}
 use Rattle.sampler.specs.Functions.{twice_ratio}
 use Rattle.sampler.specs.declared.sampler.ResamplingFunction.{ResamplingFunction}
 use Rattle.planner.specs.declared.stage.Stage.{Stage}
-use Rattle.planner.specs.Stages.{grown, grown_size, same_size, growing, enough, stage_of, within as inside}
+use Rattle.planner.specs.Stages.{grown, grown_size, same_size, growing, enough, stage_of}
 use Rattle.planner.proofs.Ratio.{three}
 
 abbrev of_size : ℕ → ℕ → ImageSize

@@ -1,5 +1,5 @@
 -- Linked stages by their places. Assumes nothing.
-use Rattle.std.proofs.Common.{◌≡◌, ℕ, zero, suc, ◌<◌, List, [], ◌∷◌, length, get_or, drop, sym, refl, ◌∙◌, arith}
+use Rattle.std.proofs.Common.{◌≡◌, ℕ, zero, suc, ◌<◌, List, [], ◌∷◌, length, get_or, drop, refl, arith}
 use Rattle.image.specs.declared.image_size.ImageSize.{ImageSize}
 use Rattle.planner.specs.declared.stage.Stage.{Stage}
 use Rattle.planner.specs.Chains.{Linked}

@@ -1,5 +1,5 @@
 -- The ratio of one stage, from the float of a function's record. Assumes nothing.
-use Rattle.std.proofs.Common.{◌≡◌, ℕ, ◌*◌, ◌≤◌, min, Bool, true, false, cond, ltb, ◌⊎◌, sym, refl, ap, ◌∙◌, inl, inr, arith}
+use Rattle.std.proofs.Common.{◌≡◌, ℕ, ◌≤◌, cond, ltb, refl, ap, ◌∙◌, inl, inr, arith}
 use lib.Ieee.{Float, of_bits, of_fields, lt, binary32}
 use Rattle.std.proofs.lemmas.Bool.{cases_Bool, ltb-false}
 use Rattle.sampler.specs.Functions.{size_of, float_of, filter_of, twice_ratio}

@@ -1,5 +1,5 @@
 -- The stages of every plan: their sizes, their links and their number. Assumes nothing.
-use Rattle.std.proofs.Common.{◌≡◌, ℕ, zero, suc, ◌+◌, ◌-◌, ◌*◌, ◌/◌, ◌<◌, ◌≤◌, min, Bool, true, false, cond, ◌&&◌, eqb, leb, ◌⊎◌, List, [], ◌∷◌, ◌++◌, length, get_or, Some, None, Option, sym, refl, ap, ◌∙◌, subst, inl, inr, arith, lit≤}
+use Rattle.std.proofs.Common.{◌≡◌, ℕ, zero, suc, ◌+◌, ◌*◌, ◌/◌, ◌<◌, ◌≤◌, min, true, cond, ◌&&◌, eqb, leb, List, [], ◌∷◌, length, Some, None, sym, refl, subst, inl, inr, arith, lit≤}
 use Rattle.std.proofs.lemmas.Bool.{cases_Bool, cond_both, and_parts, eqb-true, leb-true}
 use Rattle.image.specs.declared.image_size.ImageSize.{ImageSize}
 use Rattle.sampler.specs.Functions.{is_nearest, twice_ratio}

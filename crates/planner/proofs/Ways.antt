@@ -1,5 +1,5 @@
 -- The stages of a plan, by the tests that tell how they come about. Assumes nothing.
-use Rattle.std.proofs.Common.{◌≡◌, Bool, true, false, cond, ◌&&◌, List, [], ◌∷◌, sym, refl, ap, ◌∙◌}
+use Rattle.std.proofs.Common.{◌≡◌, Bool, true, false, cond, ◌&&◌, List, [], ◌∷◌, sym, ◌∙◌}
 use Rattle.std.proofs.lemmas.Bool.{cond-true, cond-false}
 use Rattle.image.specs.declared.image_size.ImageSize.{ImageSize}
 use Rattle.sampler.specs.Functions.{is_nearest}

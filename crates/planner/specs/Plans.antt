@@ -1,8 +1,7 @@
 -- What a plan holds, and when planning is refused.
-use Rattle.std.specs.Prelude.{◌≡◌, ℕ, ◌+◌, ◌*◌, max, Bool, true, false, cond, not, ◌&&◌, ◌||◌, List, [], ◌∷◌, ◌++◌, ◌==◌, nat_lt}
+use Rattle.std.specs.Prelude.{ℕ, ◌*◌, max, Bool, true, false, cond, not, ◌&&◌, ◌||◌, List, [], ◌∷◌, ◌++◌, ◌==◌, nat_lt}
 use Rattle.image.specs.declared.image_size.ImageSize.{ImageSize}
 use Rattle.image.specs.Refusals.{Answer, Check, check, answer}
-use Rattle.image.specs.Refusals.Answer.{granted}
 use Rattle.sampler.specs.declared.sampler.ResamplingFunction.{ResamplingFunction}
 use Rattle.convolution.specs.Meaning.{dimension_limit}
 use Rattle.planner.specs.declared.scaler.Route.{Route}

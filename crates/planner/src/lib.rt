@@ -1,4 +1,6 @@
 // Planning: which stages take a source to its target, and what buffers they need.
+#![tactic(auto)]
+
 pub mod default_planner;
 pub mod multi_step_plan;
 pub mod plan;

@@ -36,7 +36,7 @@ fn grown_axis(ratio: usize, target: usize, v: usize) -> usize
 
 // The size after one stage.
 pub(crate) fn next_intermediate_size(ratio: usize, target: ImageSize, at: ImageSize) -> ImageSize
-    requires { (Dimensions at) × (ratio ≤ 8) }
+    requires { Dimensions at × (ratio ≤ 8) }
     ensures { result ≡ grown_size ratio target at }
 {
     let width = grown_axis(ratio, target.width, at.width);

@@ -1,7 +1,7 @@
 -- Calls in a row: those on a sheet that earlier calls left.
-use Rattle.std.proofs.Common.{◌≡◌, ℕ, ◌+◌, false, List, [], ◌∷◌, ◌++◌, length, refl, arith, length-append}
+use Rattle.std.proofs.Common.{ℕ, ◌+◌, false, List, ◌++◌, length, refl, arith, length-append}
 use Rattle.history.specs.Calls.{Store}
-use Rattle.history.specs.Past.{Entry, Past, Upheld}
+use Rattle.history.specs.Past.{Entry, Past}
 use Rattle.history.specs.Past.Past.{fresh, next}
 use Rattle.history.proofs.Laws.{no_wrong_pixel}
 use Rattle.rate_sheet.specs.Sheets.{After}

@@ -1,4 +1,6 @@
 // A rate sheet: strips of several tower clocks, of odd lengths, each resized into its own window of one sheet.
+#![tactic(auto)]
+
 ghost use Rattle.std.specs.Prelude.{◌≡◌, ◌+◌, ◌-◌, ◌^◌, ◌<◌, min, max, OnOk};
 ghost use Rattle.resampling.specs.Seen.{sheet_of};
 ghost use Rattle.rate_sheet.specs.Sheets.{After};

@@ -4,6 +4,8 @@
 //
 // A line: `u16` or `f32`, the numbers of a case in the order of `Case`, and the elements of the source's buffer. Floats
 // stand as their bits; every NaN is printed as 2143289344.
+#![tactic(auto)]
+
 use convolution::KernelFamily;
 use image::{Element, ImageSize, ImageStore, ImageStoreMut, PicScaleError};
 use layers::{Limit, Pair};

@@ -1,5 +1,7 @@
 // Runs every order of a table, one line of hexadecimal for each, and prints its stages and rows on one line, or its
 // refusal. The lines were worked out from the rules by tests/orders.py.
+#![tactic(auto)]
+
 use convolution::KernelFamily;
 use layers::Pair;
 use lines::Lines;

@@ -14,6 +14,8 @@
 //
 // Numbers are decimal. A float stands as its bits; every NaN is printed as 2143289344. For any other line `no case` is
 // printed.
+#![tactic(auto)]
+
 use convolution::KernelFamily;
 use foreign_calls::{Numbers, Part, Request, call_by};
 use image::{Element, PicScaleError};

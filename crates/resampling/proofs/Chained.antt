@@ -1,10 +1,10 @@
 -- Lists of stages: where they end, what they come to, and what is left in a half.
-use Rattle.std.proofs.Common.{◌≡◌, ℕ, ◌+◌, ◌-◌, ◌*◌, ◌<◌, ◌≤◌, Bool, true, false, cond, List, [], ◌∷◌, ◌++◌, length, take, drop, sym, refl, ap, ◌∙◌, arith, rules}
+use Rattle.std.proofs.Common.{◌≡◌, ℕ, ◌+◌, ◌-◌, ◌*◌, ◌≤◌, Bool, true, false, cond, List, [], ◌∷◌, ◌++◌, length, take, refl, arith, rules}
 use Rattle.std.proofs.lemmas.List.{places, same_lists}
-use Rattle.image.specs.Rows.{part, row, rows, listed}
+use Rattle.image.specs.Rows.{part, rows}
 use Rattle.image.specs.declared.image_size.ImageSize.{ImageSize}
 use Rattle.image.proofs.Strides.{row_fits}
-use Rattle.convolution.specs.Meaning.{Meaning, RowsFit}
+use Rattle.convolution.specs.Meaning.{Meaning}
 use Rattle.planner.specs.declared.stage.Stage.{Stage}
 use Rattle.planner.specs.Chains.{Linked}
 use Rattle.values.specs.Values.{stage_value, composed}

@@ -1,7 +1,7 @@
 -- Images without gaps: what a buffer shows after such an image was written into it.
-use Rattle.std.proofs.Common.{◌≡◌, ℕ, suc, ◌+◌, ◌-◌, ◌*◌, ◌<◌, ◌≤◌, List, [], length, get_or, take, drop, sym, refl, ap, ◌∙◌, mul_assoc, suc-mul, mul_comm, mul-suc, arith}
+use Rattle.std.proofs.Common.{◌≡◌, ℕ, suc, ◌+◌, ◌-◌, ◌*◌, ◌<◌, ◌≤◌, List, [], length, sym, ap, ◌∙◌, mul_assoc, mul_comm, mul-suc, arith}
 use Rattle.std.proofs.lemmas.List.{same_lists, get_or_default}
-use Rattle.image.specs.Rows.{part, row, rows, listed, painted}
+use Rattle.image.specs.Rows.{part, row, rows, painted}
 use Rattle.image.specs.declared.image_size.ImageSize.{ImageSize}
 use Rattle.image.proofs.Strides.{row_fits}
 use Rattle.image.proofs.RowsOf.{length-rows, row-rows, rows_even}

@@ -1,19 +1,19 @@
 -- The stages of a plan may run with the buffers that it asks for.
-use Rattle.std.proofs.Common.{◌≡◌, ℕ, zero, suc, ◌+◌, ◌-◌, ◌*◌, ◌<◌, ◌≤◌, max, Bool, true, false, cond, ◌⊎◌, List, [], ◌∷◌, ◌++◌, length, get_or, take, drop, sym, refl, ap, ◌∙◌, subst, inl, inr, arith, length-drop}
+use Rattle.std.proofs.Common.{◌≡◌, ℕ, suc, ◌+◌, ◌-◌, ◌*◌, ◌<◌, ◌≤◌, Bool, true, false, List, [], ◌∷◌, ◌++◌, length, get_or, take, drop, sym, refl, ap, ◌∙◌, subst, inl, inr, arith, length-drop}
 use Rattle.std.proofs.lemmas.List.{drop_more, take_more, take_all, get_or-drop, nil_from_length}
 use Rattle.std.proofs.lemmas.Bool.{cases_Bool, false≢true}
 use Rattle.image.specs.declared.image_size.ImageSize.{ImageSize}
 use Rattle.sampler.specs.Functions.{is_nearest}
 use Rattle.planner.specs.declared.scaler.Scaler.{Scaler}
 use Rattle.planner.specs.declared.stage.Stage.{Stage}
-use Rattle.planner.specs.Stages.{kind_of, stage_of, stages_of}
+use Rattle.planner.specs.Stages.{stages_of}
 use Rattle.planner.specs.Chains.{WellSized, Each, Linked}
-use Rattle.planner.specs.Plans.{needs_kernel, work_by, work_of, half_of, area}
+use Rattle.planner.specs.Plans.{needs_kernel, work_of, half_of}
 use Rattle.image.specs.Rows.{row, rows, painted}
 use Rattle.convolution.specs.Meaning.{Meaning, RowsFit}
 use Rattle.values.specs.Values.{composed}
 use Rattle.resampling.specs.declared.multi_step_plan.Settings.{Settings}
-use Rattle.resampling.specs.Running.{Runnable, AllRunnable, Roomy}
+use Rattle.resampling.specs.Running.{AllRunnable, Roomy}
 
 -- a list of two or more, by its ends
 pub split : {X : Type 0} (xs : List X) (z : X) (k : ℕ) → 0 < k → length xs ≡ k + 1

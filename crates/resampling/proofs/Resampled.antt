@@ -1,10 +1,10 @@
 -- What the checks of a resample show, and how its answer is joined.
-use Rattle.std.proofs.Common.{◌≡◌, ℕ, ◌+◌, ◌-◌, ◌*◌, ◌<◌, ◌≤◌, Bool, true, false, cond, not, ◌&&◌, ◌||◌, eqb, ltb, List, [], ◌∷◌, length, sym, refl, ap, ◌∙◌, subst, ap₂, arith}
+use Rattle.std.proofs.Common.{◌≡◌, ℕ, ◌*◌, ◌≤◌, Bool, true, false, not, ◌&&◌, ◌||◌, eqb, ltb, List, sym, subst, ap₂, arith}
 use Rattle.std.proofs.lemmas.Bool.Decides.{nat_tests}
 use Rattle.image.specs.Refusals.{Answer, answer, and_then}
 use Rattle.image.specs.Refusals.Answer.{granted, refused}
 use Rattle.image.specs.Rows.{row, rows, painted}
-use Rattle.image.specs.Stores.{Numbers, pitch, row_length, image, laid, same_answer, same_checks}
+use Rattle.image.specs.Stores.{Numbers, pitch, image, laid, same_answer}
 use Rattle.image.specs.declared.image_size.ImageSize.{ImageSize}
 use Rattle.image.proofs.Granted.{Sound, Clear, clear, at_most}
 use Rattle.sampler.specs.Functions.{is_nearest}

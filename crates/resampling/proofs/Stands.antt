@@ -1,5 +1,5 @@
 -- A call that is a step extends every past of its sheet, and what holds of pasts holds after it.
-use Rattle.std.proofs.Common.{◌≡◌, ℕ, ◌+◌, ◌-◌, ◌*◌, ◌≤◌, Bool, true, false, cond, List, [], ◌∷◌, length, take, drop, is_ok, Ok, Err, Result, sym, refl, ap, ◌∙◌, arith, length-drop, take_all}
+use Rattle.std.proofs.Common.{◌≡◌, ℕ, ◌+◌, ◌-◌, ◌*◌, Bool, false, cond, List, ◌∷◌, length, take, drop, is_ok, Ok, Err, Result, ap, ◌∙◌, arith, length-drop, take_all}
 use borrow.Rule.Slice.PartMut.{put_mid, put_same}
 use Rattle.image.specs.declared.validation.PicScaleError.{PicScaleError}
 use Rattle.image.specs.Refusals.{Answer, reply, and_then}
@@ -10,7 +10,6 @@ use Rattle.image.proofs.Paint.{put_mid-put}
 use Rattle.history.specs.Calls.{Call, Store, is_granted, Step}
 use Rattle.history.specs.Past.{Entry, Past, Upheld}
 use Rattle.history.specs.Past.Past.{next}
-use Rattle.history.specs.Promise.{Promise}
 use Rattle.history.proofs.Runs.{promise}
 
 module _ {E : Type 0} (size : ℕ) (deep : Bool) (c : Call E) (s t : Store E) (a : Answer) (st : Step size deep c s a t) where

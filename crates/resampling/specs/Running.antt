@@ -1,5 +1,5 @@
 -- What the engine counts on when it runs stages, and what lies in the halves between them.
-use Rattle.std.specs.Prelude.{◌≡◌, ℕ, ◌*◌, ◌<◌, ◌≤◌, Bool, true, List, [], ◌∷◌, length}
+use Rattle.std.specs.Prelude.{◌≡◌, ℕ, ◌*◌, ◌<◌, ◌≤◌, Bool, true, List, [], ◌∷◌}
 use Rattle.image.specs.Rows.{rows}
 use Rattle.image.specs.declared.image_size.ImageSize.{ImageSize}
 use Rattle.planner.specs.declared.stage.Stage.{Stage}

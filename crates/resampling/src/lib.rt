@@ -1,4 +1,6 @@
 // Staged execution, and the calls on a sheet.
+#![tactic(auto)]
+
 pub mod multi_step_plan;
 pub mod nearest_plan;
 pub mod non_alpha_plan;

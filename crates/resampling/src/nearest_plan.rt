@@ -14,7 +14,7 @@ const DIMENSION_LIMIT: usize = 65535;
 
 // How far one target pixel reaches in the source, in parts of 2^32.
 fn scale_of(n: usize, m: usize) -> u64
-    requires { (Dimension n) × (Dimension m) }
+    requires { Dimension n × Dimension m }
     ensures { result ≡ scale n m }
 {
     ((n as u64) << 32) / (m as u64)
@@ -22,7 +22,8 @@ fn scale_of(n: usize, m: usize) -> u64
 
 // The source pixel of the target pixel `x`, by the scale.
 fn position(k: u64, n: usize, m: usize, x: usize) -> usize
-    requires sizes { (Dimension n) × ((Dimension m) × (x < m)) }
+    requires sizes { Dimension n × Dimension m }
+    requires output { x < m }
     requires scale { k ≡ scale n m }
     ensures value { result ≡ nearest n m x }
     ensures within { result < n }
@@ -30,9 +31,19 @@ fn position(k: u64, n: usize, m: usize, x: usize) -> usize
     ((x as u64 * k + k / 2) >> 32) as usize
 }
 
+// The same, where no scale is at hand.
+fn nearest_of(n: usize, m: usize, x: usize) -> usize
+    requires sizes { Dimension n × Dimension m }
+    requires output { x < m }
+    ensures value { result ≡ nearest n m x }
+    ensures within { result < n }
+{
+    position(scale_of(n, m), n, m, x)
+}
+
 // One row of pixels of one element each.
 fn nearest_elements<T: Element>(src: &[T], n: usize, dst: &mut [T], m: usize)
-    requires sizes { (Dimension n) × (Dimension m) }
+    requires sizes { Dimension n × Dimension m }
     requires source { length src.now ≡ n }
     requires target { length dst.old ≡ m }
     ensures { dst.new ≡ nearest_row 1 n m src.now }
@@ -45,7 +56,8 @@ fn nearest_elements<T: Element>(src: &[T], n: usize, dst: &mut [T], m: usize)
 
 // One row of pixels of N elements, each copied as a whole.
 fn nearest_pixels<T: Element, const N: usize>(src: &[T], n: usize, dst: &mut [T], m: usize)
-    requires sizes { (Dimension n) × ((Dimension m) × (N ≤ 4)) }
+    requires sizes { Dimension n × Dimension m }
+    requires channels { N ≤ 4 }
     requires source { length src.now ≡ n * N }
     requires target { length dst.old ≡ m * N }
     ensures { dst.new ≡ nearest_row N n m src.now }
@@ -60,7 +72,8 @@ fn nearest_pixels<T: Element, const N: usize>(src: &[T], n: usize, dst: &mut [T]
 
 // One row, its pixels in turn. The channels are a constant of the loop, so that a pixel moves at once.
 pub(crate) fn nearest_row<T: Element>(src: &[T], n: usize, dst: &mut [T], m: usize, channels: usize)
-    requires sizes { (Dimension n) × ((Dimension m) × ((0 < channels) × (channels ≤ 4))) }
+    requires sizes { Dimension n × Dimension m }
+    requires channels { (0 < channels) × (channels ≤ 4) }
     requires source { length src.now ≡ n * channels }
     requires target { length dst.old ≡ m * channels }
     ensures { dst.new ≡ nearest_row channels n m src.now }
@@ -93,9 +106,8 @@ pub(crate) fn nearest_rows<T: Element>(
     let n = source.width * channels;
     let m = target.width * channels;
     let height = target.height;
-    let k = scale_of(source.height, height);
     for y in 0..height {
-        let line = position(k, source.height, height, y);
+        let line = nearest_of(source.height, height, y);
         let from = row_start(src, line, src_stride, source.height, n);
         let to = row_start(dst, y, dst_stride, height, m);
         nearest_row(

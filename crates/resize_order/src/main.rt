@@ -1,4 +1,6 @@
 // Reads one order from standard input, and prints its stages and the rows of its target, or its refusal.
+#![tactic(auto)]
+
 use convolution::KernelFamily;
 use layers::Pair;
 use lines::Lines;

@@ -1,4 +1,6 @@
 // Resampling functions.
+#![tactic(auto)]
+
 pub mod sampler;
 
 pub use sampler::{ResamplingFilter, ResamplingFunction};

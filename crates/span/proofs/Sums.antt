@@ -1,5 +1,5 @@
 -- The bounds of a span, its sum and its mean.
-use Rattle.std.proofs.Common.{◌≡◌, ℕ, suc, ◌+◌, ◌-◌, ◌*◌, ◌/◌, ◌%◌, ◌<◌, ◌≤◌, List, [], ◌∷◌, length, get_or, drop, sum_by, sym, ap, ◌∙◌, mul-le-mul_right, mod-eq_of_lt, mul_assoc, suc-mul, mul_comm, mul-le-mul_left, mul-suc, div-mul-le_self, add-one, arith, rules}
+use Rattle.std.proofs.Common.{◌≡◌, ℕ, suc, ◌+◌, ◌-◌, ◌*◌, ◌/◌, ◌%◌, ◌<◌, ◌≤◌, List, [], ◌∷◌, length, get_or, drop, sum_by, sym, ap, ◌∙◌, mul-le-mul_right, mod-eq_of_lt, mul_assoc, suc-mul, mul_comm, mul-suc, div-mul-le_self, add-one, arith, rules}
 use Rattle.std.proofs.lemmas.Nat.{div_below, le-div}
 use Rattle.std.proofs.lemmas.List.{places, get_or-drop}
 use Rattle.std.proofs.lemmas.List.Sums.{sum_by_more}

@@ -1,4 +1,6 @@
 // Span: an output is the mean of the elements that it covers.
+#![tactic(auto)]
+
 pub mod mean;
 
 use lines::Lines;

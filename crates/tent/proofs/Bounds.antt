@@ -1,5 +1,5 @@
 -- An output's index lies within its line, and its value between its two elements.
-use Rattle.std.proofs.Common.{◌≡◌, ℕ, suc, ◌+◌, ◌-◌, ◌*◌, ◌/◌, ◌%◌, ◌<◌, ◌≤◌, min, List, [], ◌∷◌, length, get_or, sym, ap, ◌∙◌, mul-le-mul_right, mod-eq_of_lt, suc-mul, mul_comm, mul-le-mul_left, mul-add, arith}
+use Rattle.std.proofs.Common.{◌≡◌, ℕ, suc, ◌+◌, ◌-◌, ◌*◌, ◌%◌, ◌<◌, ◌≤◌, min, List, [], ◌∷◌, length, get_or, sym, ap, ◌∙◌, mul-le-mul_right, mod-eq_of_lt, suc-mul, mul_comm, mul-add, arith}
 use Rattle.std.proofs.lemmas.Nat.{div_below, mod_below}
 use Rattle.tent.specs.Tent.{tent_distance, tent_place, tent_blend, tent_between}
 

@@ -1,4 +1,6 @@
 // Tent: an output lies between two elements and is weighed by its distance to each.
+#![tactic(auto)]
+
 pub mod float_linear;
 pub mod linear;
 pub mod place;

@@ -1,5 +1,4 @@
-use Rattle.std.proofs.Common.{arith, rules}
-use Rattle.std.proofs.lemmas.Bool.Decides.{nat_tests}
+use Rattle.std.proofs.Common.{rules}
 use Rattle.image.specs.Stores.{part_answer}
 use Rattle.image.proofs.image_store.check_part.Goals as goal
 

@@ -1,4 +1,4 @@
-use Rattle.std.proofs.Common.{◌+◌, ◌-◌, ◌*◌, ◌<◌, ◌≤◌, arith, rules}
+use Rattle.std.proofs.Common.{◌+◌, ◌-◌, ◌*◌, ◌≤◌, arith, rules}
 use borrow.Author.Tests.{false-ltb}
 use Rattle.image.specs.Stores.{byte_limit}
 use Rattle.image.proofs.Sizes.{factor_le, second_left}

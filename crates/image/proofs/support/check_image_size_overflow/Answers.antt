@@ -1,4 +1,4 @@
-use Rattle.std.proofs.Common.{ℕ, ◌-◌, ◌*◌, ◌^◌, min, ltb, ap, ◌∙◌, arith, lit<}
+use Rattle.std.proofs.Common.{ℕ, ◌-◌, ◌*◌, ◌^◌, min, ltb, ap, ◌∙◌, lit<}
 use Rattle.image.specs.Stores.{byte_limit}
 use Rattle.image.proofs.Sizes.{sat_mul, sat_test}
 use Rattle.image.proofs.support.check_image_size_overflow.Goals as goal

@@ -1,4 +1,4 @@
-use Rattle.std.proofs.Common.{◌≡◌, ℕ, ◌-◌, ◌*◌, ◌^◌, min, ap, ◌∙◌}
+use Rattle.std.proofs.Common.{ℕ, ◌-◌, ◌*◌, ◌^◌, min, ap, ◌∙◌}
 use Rattle.order.proofs.Passes.{saturated}
 use Rattle.order.proofs.resizing.elements.Goals as goal
 

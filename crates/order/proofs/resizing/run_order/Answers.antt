@@ -1,4 +1,4 @@
-use Rattle.std.proofs.Common.{◌≡◌, false, sym, refl, ap, ◌∙◌}
+use Rattle.std.proofs.Common.{◌≡◌, false, sym, ◌∙◌}
 use Rattle.image.specs.Refusals.{reply}
 use Rattle.image.specs.Refusals.Answer.{granted}
 use Rattle.image.specs.Stores.{laid}

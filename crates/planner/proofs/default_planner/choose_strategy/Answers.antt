@@ -1,4 +1,4 @@
-use Rattle.std.proofs.Common.{sym, ap, ◌∙◌, rules}
+use Rattle.std.proofs.Common.{sym, ap, ◌∙◌}
 use Rattle.std.proofs.lemmas.Bool.{and_parts}
 use Rattle.planner.specs.Stages.{prefiltered}
 use Rattle.planner.proofs.Ways.{by_nearest, by_growing, by_sampling, by_one}

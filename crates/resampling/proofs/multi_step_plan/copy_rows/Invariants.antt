@@ -1,4 +1,4 @@
-use Rattle.std.proofs.Common.{◌≡◌, ◌*◌}
+use Rattle.std.proofs.Common.{◌≡◌}
 use Rattle.image.specs.Rows.{rows, row, painted}
 use Rattle.resampling.proofs.multi_step_plan.copy_rows.Given as goal
 

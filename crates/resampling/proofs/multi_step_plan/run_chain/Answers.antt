@@ -1,4 +1,4 @@
-use Rattle.std.proofs.Common.{◌≡◌, ℕ, ◌*◌, ◌≤◌, cond, List, [], ◌∷◌, ◌++◌, length, take, sym, ap, ◌∙◌, subst, arith, length-take-le, rules}
+use Rattle.std.proofs.Common.{◌≡◌, ℕ, ◌*◌, ◌≤◌, cond, [], ◌∷◌, length, sym, ap, ◌∙◌, subst, arith, length-take-le, rules}
 use Rattle.image.specs.Rows.{row, rows, painted}
 use Rattle.image.specs.declared.image_size.ImageSize.{ImageSize}
 use Rattle.convolution.specs.Meaning.{RowsFit}
@@ -6,9 +6,9 @@ use Rattle.planner.specs.Chains.{Linked, Dimensions}
 use Rattle.planner.specs.Plans.{area}
 use Rattle.values.specs.Values.{stage_value, composed}
 use Rattle.values.proofs.Shapes.{stage_sized, SomeSize}
-use Rattle.resampling.specs.Running.{AllRunnable, Runnable, Roomy, packed, end_of}
+use Rattle.resampling.specs.Running.{AllRunnable, Runnable, Roomy, packed}
 use Rattle.resampling.proofs.Packed.{packed_fits, rows_sized, packed_painted}
-use Rattle.resampling.proofs.Chained.{linked_end, composed_append, rows_take, either_long}
+use Rattle.resampling.proofs.Chained.{linked_end, composed_append, rows_take}
 use Rattle.resampling.proofs.multi_step_plan.run_chain.Goals as goal
 
 pub run_stage-requires : goal.run_stage-requires

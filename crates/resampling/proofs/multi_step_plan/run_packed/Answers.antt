@@ -1,5 +1,4 @@
-use Rattle.std.proofs.Common.{◌*◌, length, ap, ◌∙◌, arith, rules}
-use Rattle.image.specs.Rows.{rows}
+use Rattle.std.proofs.Common.{◌*◌, length, ap, ◌∙◌}
 use Rattle.values.proofs.Shapes.{stage_sized, SomeSize}
 use Rattle.resampling.specs.Running.{packed}
 use Rattle.resampling.proofs.Packed.{packed_fits, rows_sized, packed_painted}

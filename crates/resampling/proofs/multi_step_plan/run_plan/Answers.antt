@@ -1,5 +1,4 @@
-use Rattle.std.proofs.Common.{◌≡◌, ℕ, ◌+◌, ◌-◌, ◌*◌, ◌<◌, ◌≤◌, List, [], ◌∷◌, ◌++◌, length, get_or, take, drop, sym, refl, ap, ◌∙◌, subst, arith, rules}
-use Rattle.image.specs.declared.image_size.ImageSize.{ImageSize}
+use Rattle.std.proofs.Common.{◌≡◌, ℕ, ◌-◌, [], ◌∷◌, ◌++◌, length, get_or, take, drop, sym, ap, ◌∙◌, subst, arith}
 use Rattle.sampler.specs.declared.sampler.ResamplingFunction.TheVariants.{Bilinear}
 use Rattle.planner.specs.declared.scaler.Scaler.{Scaler}
 use Rattle.planner.specs.declared.stage.Stage.{Stage}

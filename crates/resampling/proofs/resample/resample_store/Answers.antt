@@ -1,8 +1,6 @@
-use Rattle.std.proofs.Common.{◌≡◌, ℕ, cond, List, length, is_ok, sym, refl, ap, ◌∙◌, arith, rules}
+use Rattle.std.proofs.Common.{cond, is_ok, sym, refl, ap, ◌∙◌, rules}
 use Rattle.std.proofs.lemmas.Result.{err_from_is_err_and}
 use Rattle.std.proofs.lemmas.Bool.{false≢true}
-use Rattle.image.specs.Refusals.{number_of, values_of}
-use Rattle.image.specs.Refusals.Answer.{refused}
 use Rattle.image.specs.Stores.{numbers, elements, numbers_mut, elements_mut, laid}
 use Rattle.image.proofs.Granted.{source_sound, target_sound, joined_granted}
 use Rattle.planner.specs.Plan.{plan_stages}

@@ -1,8 +1,7 @@
-use Rattle.std.proofs.Common.{◌≡◌, ℕ, ◌+◌, ◌-◌, ◌*◌, ◌≤◌, length, take, drop, sym, refl, ap, ◌∙◌, arith, length-drop, length-take-le, rules}
+use Rattle.std.proofs.Common.{◌≡◌, ℕ, ◌+◌, ◌-◌, ◌*◌, ◌≤◌, length, take, drop, refl, ap, ◌∙◌, arith, length-drop, length-take-le, rules}
 use borrow.Author.Rules.{scaled_fits≤}
 use Rattle.std.proofs.lemmas.Result.{err_from_is_err_and}
 use Rattle.image.specs.Refusals.{reply, number_of, values_of}
-use Rattle.image.specs.Refusals.Answer.{refused}
 use Rattle.image.specs.Stores.{numbers_mut, elements_mut, pitch, place}
 use Rattle.image.proofs.Granted.{target_placed}
 use Rattle.history.specs.Calls.{answer_of, resample_answer, asked, plan_value}

@@ -1,4 +1,3 @@
-use Rattle.std.proofs.Common.{◌≡◌}
 use Rattle.image.specs.Refusals.{reply}
 use Rattle.history.specs.Calls.{answer_of}
 use Rattle.history.specs.Calls.Window.{whole}

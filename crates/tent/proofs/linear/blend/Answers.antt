@@ -1,4 +1,4 @@
-use Rattle.std.proofs.Common.{◌≡◌, ap, ◌∙◌, arith}
+use Rattle.std.proofs.Common.{ap, ◌∙◌, arith}
 use Rattle.tent.proofs.Bounds.{blend_is}
 use Rattle.tent.proofs.linear.blend.Goals as goal
 

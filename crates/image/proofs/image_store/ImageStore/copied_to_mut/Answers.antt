@@ -1,5 +1,5 @@
-use Rattle.std.proofs.Common.{◌≡◌, length, refl, ◌∙◌, arith, rules}
-use Rattle.image.specs.Stores.{numbers, elements, numbers_mut, elements_mut, same_answer, pitch}
+use Rattle.std.proofs.Common.{refl, ◌∙◌, rules}
+use Rattle.image.specs.Stores.{numbers, elements, numbers_mut, elements_mut, same_answer}
 use Rattle.image.proofs.Granted.{source_sound, target_sound, same_size, joined_granted}
 use Rattle.image.proofs.Copied.{source_rows, copied, copied_on}
 use Rattle.image.proofs.image_store.ImageStore.copied_to_mut.Goals as goal

@@ -1,4 +1,4 @@
-use Rattle.std.proofs.Common.{◌≡◌, ℕ, ◌+◌, ◌-◌, ◌*◌, ◌≤◌, length, drop, sym, refl, ap, ◌∙◌, arith, length-drop, take_all, rules}
+use Rattle.std.proofs.Common.{ℕ, ◌+◌, ◌-◌, ◌*◌, ◌≤◌, length, drop, ap, ◌∙◌, arith, length-drop, take_all, rules}
 use Rattle.image.specs.Stores.{elements}
 use Rattle.image.proofs.Granted.{source_placed, joined_granted}
 use Rattle.image.proofs.image_store.ImageStore.crop.Goals as goal

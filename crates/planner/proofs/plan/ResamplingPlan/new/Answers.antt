@@ -1,4 +1,4 @@
-use Rattle.std.proofs.Common.{sym, refl, ap, ◌∙◌, rules}
+use Rattle.std.proofs.Common.{refl, ap, ◌∙◌}
 use Rattle.planner.specs.Plans.{work_of, half_of}
 use Rattle.planner.proofs.Sized.{chain, chain_at}
 use Rattle.planner.proofs.plan.ResamplingPlan.new.Goals as goal

@@ -1,4 +1,4 @@
-use Rattle.std.proofs.Common.{◌∙◌, rules}
+use Rattle.std.proofs.Common.{◌∙◌}
 use Rattle.planner.proofs.Sized.{chain_at}
 use Rattle.planner.proofs.plan.ResamplingPlan.stages.Goals as goal
 

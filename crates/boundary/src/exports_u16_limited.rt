@@ -1,0 +1,95 @@
+// The exported calls on u16, by Pair of Tent and Span held to the depth. The allocator takes no bytes: a caller passes nothing for `heap`.
+ghost use Rattle.std.specs.Prelude.{true, Some, None};
+ghost use Rattle.foreign_calls.specs.Crossing.{Called, PlanTold};
+ghost use Rattle.boundary.specs.Families.{limited_tent_span};
+
+use crate::families::limited;
+use foreign_calls::{Numbers, Part, Plan, Request, StageRow, Values, call_by, plan_by, tell};
+use layers::{Limit, Pair};
+use span::Span;
+use std::alloc::Global;
+use tent::Tent;
+
+#[unsafe(no_mangle)]
+pub extern "C" fn japotuhe_plan_u16_limited(
+    heap: Global,
+    request: &Request,
+    number: usize,
+    planned: &mut Plan,
+    stage: &mut StageRow,
+    told: &mut Values,
+) -> usize
+    ensures { PlanTold limited_tent_span.knows request.now number planned.old stage.old result told.new planned.new stage.new }
+{
+    tell(
+        plan_by::<u16, Limit<Pair<Tent, Span>>>(heap, limited(), request, number, planned, stage),
+        told,
+    )
+}
+
+#[unsafe(no_mangle)]
+pub extern "C" fn japotuhe_resample_u16_limited(
+    heap: Global,
+    request: &Request,
+    from: &[u16],
+    source: &Numbers,
+    into: &mut [u16],
+    sheet: &Numbers,
+    work: &mut [u16],
+    first: &mut [u16],
+    second: &mut [u16],
+    told: &mut Values,
+) -> usize
+    ensures { Called 2 true limited_tent_span request.now None source.now from.now sheet.now into.old work.old first.old second.old result told.new into.new work.new first.new second.new }
+{
+    tell(
+        call_by::<u16, Limit<Pair<Tent, Span>>>(
+            heap,
+            limited(),
+            request,
+            from,
+            source,
+            into,
+            sheet,
+            None,
+            work,
+            first,
+            second,
+        ),
+        told,
+    )
+}
+
+#[unsafe(no_mangle)]
+pub extern "C" fn japotuhe_window_u16_limited(
+    heap: Global,
+    request: &Request,
+    from: &[u16],
+    source: &Numbers,
+    into: &mut [u16],
+    sheet: &Numbers,
+    part: &Part,
+    work: &mut [u16],
+    first: &mut [u16],
+    second: &mut [u16],
+    told: &mut Values,
+) -> usize
+    ensures { Called 2 true limited_tent_span request.now (Some part.now) source.now from.now sheet.now into.old work.old first.old second.old result told.new into.new work.new first.new second.new }
+{
+    tell(
+        call_by::<u16, Limit<Pair<Tent, Span>>>(
+            heap,
+            limited(),
+            request,
+            from,
+            source,
+            into,
+            sheet,
+            Some(*part),
+            work,
+            first,
+            second,
+        ),
+        told,
+    )
+}
