@@ -7,7 +7,7 @@ pub trait Element: Copy + Drop {
 
     const NEEDS_DEPTH: bool;
 
-    // A clause cannot name a constant: these say what the two are.
+    // What the two constants are, for clauses.
     ghost size: { ℕ };
 
     ghost deep: { Bool };

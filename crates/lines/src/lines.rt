@@ -87,7 +87,7 @@ fn outputs_of_4_rows<T: Element, K: LineKernel<T, Place = (usize, usize)>, const
     requires output { x < m }
     requires source { src_stride * (4 - 1) + n * N ≤ length src.now }
     requires target { dst_stride * (4 - 1) + N ≤ length dst.old }
-    requires channels { (0 < N) × (N ≤ 4) }
+    requires channels { 0 < N }
     ensures { dst.new ≡ painted dst.old dst_stride (λ i. joined (λ k. K.LineKernel.value (line (part (i * src_stride) (n * N) src.now) k N n) m x) N) 4 }
 {
     let row = n * N;
@@ -133,7 +133,7 @@ fn four_rows_of_pixels<T: Element, K: LineKernel<T, Place = (usize, usize)>, con
     dst_stride: usize,
 )
     requires sizes { Dimension n × Dimension m }
-    requires channels { (0 < N) × (N ≤ 4) }
+    requires channels { 0 < N }
     requires source { src_stride * (4 - 1) + n * N ≤ length src.now }
     requires apart { m * N ≤ dst_stride }
     requires target { dst_stride * (4 - 1) + m * N ≤ length dst.old }

@@ -62,12 +62,12 @@ left s t = (t.width - s.width) + (t.height - s.height)
 pub nearer : (f : ResamplingFunction) (s t : ImageSize) → Below s t → same_size (after f s t) t ≡ false → left (after f s t) t < left s t
 nearer f s t b e =
     let r = twice_ratio f in
-    let three-r = three f in
-    let a = keeps r t.width s.width three-r b.most_width in
-    let h = keeps r t.height s.height three-r b.most_height in
+    let three_r = three f in
+    let a = keeps r t.width s.width three_r b.most_width in
+    let h = keeps r t.height s.height three_r b.most_height in
     elim (short f s t e) [
-      | inl x ↦ omega (arith, rises r t.width s.width three-r b.some_width (omega arith))
-      | inr x ↦ omega (arith, rises r t.height s.height three-r b.some_height (omega arith))
+      | inl x ↦ omega (arith, rises r t.width s.width three_r b.some_width (omega arith))
+      | inr x ↦ omega (arith, rises r t.height s.height three_r b.some_height (omega arith))
     ]
 
 -- what is more than the way left allows no further stage

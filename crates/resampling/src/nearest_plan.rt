@@ -42,7 +42,7 @@ fn nearest_of(n: usize, m: usize, x: usize) -> usize
 }
 
 // One row of pixels of one element each.
-fn nearest_elements<T: Element>(src: &[T], n: usize, dst: &mut [T], m: usize)
+fn nearest_row_of_elements<T: Element>(src: &[T], n: usize, dst: &mut [T], m: usize)
     requires sizes { Dimension n × Dimension m }
     requires source { length src.now ≡ n }
     requires target { length dst.old ≡ m }
@@ -55,7 +55,7 @@ fn nearest_elements<T: Element>(src: &[T], n: usize, dst: &mut [T], m: usize)
 }
 
 // One row of pixels of N elements, each copied as a whole.
-fn nearest_pixels<T: Element, const N: usize>(src: &[T], n: usize, dst: &mut [T], m: usize)
+fn nearest_row_of_pixels<T: Element, const N: usize>(src: &[T], n: usize, dst: &mut [T], m: usize)
     requires sizes { Dimension n × Dimension m }
     requires channels { N ≤ 4 }
     requires source { length src.now ≡ n * N }
@@ -79,10 +79,10 @@ pub(crate) fn nearest_row<T: Element>(src: &[T], n: usize, dst: &mut [T], m: usi
     ensures { dst.new ≡ nearest_row channels n m src.now }
 {
     match channels {
-        1 => nearest_elements(src, n, dst, m),
-        2 => nearest_pixels::<T, 2>(src, n, dst, m),
-        3 => nearest_pixels::<T, 3>(src, n, dst, m),
-        _ => nearest_pixels::<T, 4>(src, n, dst, m),
+        1 => nearest_row_of_elements(src, n, dst, m),
+        2 => nearest_row_of_pixels::<T, 2>(src, n, dst, m),
+        3 => nearest_row_of_pixels::<T, 3>(src, n, dst, m),
+        _ => nearest_row_of_pixels::<T, 4>(src, n, dst, m),
     }
 }
 

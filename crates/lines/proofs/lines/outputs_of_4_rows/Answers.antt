@@ -10,7 +10,7 @@ pub pixel_of_row-pixel-requires : goal.pixel_of_row-pixel-requires
 pixel_of_row-pixel-requires g c =
     let from = length_range c.args.src.now c.row_start-from.result (c.args.n * g.row.N) c.row_start-from.ensures.within in
     let few : g.row.N ≤ length c.args.src.now = omega (arith, packed c.args.n g.row.N c.requires.sizes.0.0, c.requires.source) in
-    (lt_of_le_of_lt (mul-le-mul_right _ few) (search rules), (c.requires.place, (c.requires.sizes, (c.requires.output, (c.requires.channels.0, from)))))
+    (lt_of_le_of_lt (mul-le-mul_right _ few) (search rules), (c.requires.place, (c.requires.sizes, (c.requires.output, (c.requires.channels, from)))))
 
 pub shared_whole_as_slice-copy_from_slice : goal.shared_whole_as_slice-copy_from_slice
 shared_whole_as_slice-copy_from_slice g c =

@@ -5,7 +5,7 @@ use Rattle.image.proofs.Paint.{painted_none, painted_more}
 use Rattle.image.proofs.Full.{painted_full}
 use Rattle.image.proofs.Strides.{pixels_within}
 use Rattle.resampling.proofs.Taken.{pixel_length}
-use Rattle.resampling.proofs.nearest_plan.nearest_pixels.Goals as goal
+use Rattle.resampling.proofs.nearest_plan.nearest_row_of_pixels.Goals as goal
 
 pub loop-x-init : goal.loop-x-init
 loop-x-init g c = painted_none _ _ _
