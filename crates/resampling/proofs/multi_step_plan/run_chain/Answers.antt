@@ -11,6 +11,34 @@ use Rattle.resampling.proofs.Packed.{packed_fits, rows_sized, packed_painted}
 use Rattle.resampling.proofs.Chained.{linked_end, composed_append, rows_take}
 use Rattle.resampling.proofs.multi_step_plan.run_chain.Goals as goal
 
+pub returns : goal.returns
+returns g c =
+    let k = c.args.settings.channels in
+    let d = c.args.settings.depth in
+    let m = g.F.KernelFamily.meaning c.args.family.now in
+    let h = c.args.head in
+    let t = c.args.tail.source in
+    let sts = c.args.inner.now in
+    let src = rows c.args.src.now (h.source.width * k) c.args.src_stride h.source.height in
+    let half = cond c.middle-flipped.result.0 c.middle-flipped.new.second c.middle-flipped.new.first in
+    let ends = linked_end h.target t sts c.requires.linked in
+    let e = c.middle-flipped.ensures.size ∙ ends in
+    let some : SomeSize h.source = record { width = c.requires.ready.0.sized.source.0.0; height = c.requires.ready.0.sized.source.1.0 } in
+    let v = stage_sized m k d (g.met.F.KernelFamily.shaped c.args.family.now) h src c.requires.ready.0.sized.kept some (rows_sized _ _ _ _ c.requires.source) in
+    let began : packed k h.target c.run_stage.new.dst ≡ stage_value m k d h src =
+    ap (packed k h.target) c.run_stage.ensures ∙ packed_painted c.args.first.now _ _ _ v (packed_fits k h.target _ c.requires.ready.0.sized.target.1.0 c.requires.first.0) in
+    let len : c.elements-len.result ≡ area k t = c.elements-len.ensures ∙ ap (area k) e in
+    let fits = packed_fits k t c.elements-len.result c.requires.ready.2.sized.source.1.0 (omega (arith, len)) in
+    let last : rows c.written.result.now (t.width * k) (c.middle-flipped.result.1.width * k) t.height ≡ composed m k d sts (stage_value m k d h src) =
+    ap (λ (z : ImageSize). rows c.written.result.now (t.width * k) (z.width * k) t.height) e
+    ∙ (ap (λ xs. rows xs (t.width * k) (t.width * k) t.height) c.written.ensures
+    ∙ (rows_take half (t.width * k) (t.width * k) t.height _ fits.within
+    ∙ (ap (λ (z : ImageSize). packed k z half) (sym ends)
+    ∙ (c.middle-flipped.ensures.value ∙ ap (composed m k d sts) began)))) in
+    c.run_stage-2.ensures
+    ∙ ap (λ im. painted c.args.dst.now c.args.dst_stride (row im) c.args.tail.target.height)
+    (ap (stage_value m k d c.args.tail) last ∙ sym (composed_append m k d sts (c.args.tail ∷ []) (stage_value m k d h src)))
+
 pub run_stage-requires : goal.run_stage-requires
 run_stage-requires g c = record {
   ready = c.requires.ready.0;
@@ -57,31 +85,3 @@ run_stage-requires-2 g c =
       source = subst (λ (z : ImageSize). RowsFit (t.width * k) (z.width * k) t.height (length c.written.result.now)) (sym e) (packed_fits k t _ c.requires.ready.2.sized.source.1.0 (omega (arith, len, all)));
       target = c.requires.target;
     }
-
-pub returns : goal.returns
-returns g c =
-    let k = c.args.settings.channels in
-    let d = c.args.settings.depth in
-    let m = g.F.KernelFamily.meaning c.args.family.now in
-    let h = c.args.head in
-    let t = c.args.tail.source in
-    let sts = c.args.inner.now in
-    let src = rows c.args.src.now (h.source.width * k) c.args.src_stride h.source.height in
-    let half = cond c.middle-flipped.result.0 c.middle-flipped.new.second c.middle-flipped.new.first in
-    let ends = linked_end h.target t sts c.requires.linked in
-    let e = c.middle-flipped.ensures.size ∙ ends in
-    let some : SomeSize h.source = record { width = c.requires.ready.0.sized.source.0.0; height = c.requires.ready.0.sized.source.1.0 } in
-    let v = stage_sized m k d (g.met.F.KernelFamily.shaped c.args.family.now) h src c.requires.ready.0.sized.kept some (rows_sized _ _ _ _ c.requires.source) in
-    let began : packed k h.target c.run_stage.new.dst ≡ stage_value m k d h src =
-    ap (packed k h.target) c.run_stage.ensures ∙ packed_painted c.args.first.now _ _ _ v (packed_fits k h.target _ c.requires.ready.0.sized.target.1.0 c.requires.first.0) in
-    let len : c.elements-len.result ≡ area k t = c.elements-len.ensures ∙ ap (area k) e in
-    let fits = packed_fits k t c.elements-len.result c.requires.ready.2.sized.source.1.0 (omega (arith, len)) in
-    let last : rows c.written.result.now (t.width * k) (c.middle-flipped.result.1.width * k) t.height ≡ composed m k d sts (stage_value m k d h src) =
-    ap (λ (z : ImageSize). rows c.written.result.now (t.width * k) (z.width * k) t.height) e
-    ∙ (ap (λ xs. rows xs (t.width * k) (t.width * k) t.height) c.written.ensures
-    ∙ (rows_take half (t.width * k) (t.width * k) t.height _ fits.within
-    ∙ (ap (λ (z : ImageSize). packed k z half) (sym ends)
-    ∙ (c.middle-flipped.ensures.value ∙ ap (composed m k d sts) began)))) in
-    c.run_stage-2.ensures
-    ∙ ap (λ im. painted c.args.dst.now c.args.dst_stride (row im) c.args.tail.target.height)
-    (ap (stage_value m k d c.args.tail) last ∙ sym (composed_append m k d sts (c.args.tail ∷ []) (stage_value m k d h src)))

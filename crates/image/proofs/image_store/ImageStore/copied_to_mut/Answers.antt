@@ -4,6 +4,25 @@ use Rattle.image.proofs.Granted.{source_sound, target_sound, same_size, joined_g
 use Rattle.image.proofs.Copied.{source_rows, copied, copied_on}
 use Rattle.image.proofs.image_store.ImageStore.copied_to_mut.Goals as goal
 
+pub returns : goal.returns
+unfolding same_answer
+returns g c =
+    let d = numbers_mut c.args.into.now in
+    let s = numbers c.args.self.now in
+    let xs = elements_mut c.args.into.now in
+    let src = elements c.args.self.now in
+    let a = target_sound _ _ _ c.in_ok-validate.ensures in
+    let b = source_sound _ _ _ c.in_ok-validate-2.ensures in
+    let m = same_size d s c.in_ok-check_same.ensures in
+    let after = c.copy_rows.ensures ∙ copied d s xs src _ _ m c.stride_of-dst_stride.ensures c.stride_of-src_stride.ensures in
+    record {
+      reply = joined_granted _ _ c.in_ok-validate.ensures (joined_granted _ _ c.in_ok-validate-2.ensures c.in_ok-check_same.ensures);
+      same = refl;
+      place = refl;
+      after = after;
+      shown = copied_on d s xs src _ m a b after;
+    }
+
 pub returns-in_err-check_same : goal.returns-in_err-check_same
 unfolding same_answer
 returns-in_err-check_same g c = search rules
@@ -28,23 +47,4 @@ copy_rows-requires g c =
     record {
       source = rw c.stride_of-src_stride.ensures (source_rows d s _ m b);
       target = rw c.stride_of-dst_stride.ensures a.fits;
-    }
-
-pub returns : goal.returns
-unfolding same_answer
-returns g c =
-    let d = numbers_mut c.args.into.now in
-    let s = numbers c.args.self.now in
-    let xs = elements_mut c.args.into.now in
-    let src = elements c.args.self.now in
-    let a = target_sound _ _ _ c.in_ok-validate.ensures in
-    let b = source_sound _ _ _ c.in_ok-validate-2.ensures in
-    let m = same_size d s c.in_ok-check_same.ensures in
-    let after = c.copy_rows.ensures ∙ copied d s xs src _ _ m c.stride_of-dst_stride.ensures c.stride_of-src_stride.ensures in
-    record {
-      reply = joined_granted _ _ c.in_ok-validate.ensures (joined_granted _ _ c.in_ok-validate-2.ensures c.in_ok-check_same.ensures);
-      same = refl;
-      place = refl;
-      after = after;
-      shown = copied_on d s xs src _ m a b after;
     }
