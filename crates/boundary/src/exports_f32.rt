@@ -1,4 +1,5 @@
-// The exported calls on f32, by FloatTent. The allocator takes no bytes: a caller passes nothing for `heap`.
+// The exported calls on f32, by FloatTent.
+// The allocator takes no bytes: a caller passes nothing for `heap`.
 ghost use Rattle.std.specs.Prelude.{false, length, Some, None};
 ghost use Rattle.foreign_calls.specs.Crossing.{Called, PlanTold, CropTold};
 ghost use Rattle.boundary.specs.Families.{float_tent};

@@ -1,4 +1,5 @@
-// The exported calls on u8, by Pair of Tent and Span. The allocator takes no bytes: a caller passes nothing for `heap`.
+// The exported calls on u8, by Pair of Tent and Span.
+// The allocator takes no bytes: a caller passes nothing for `heap`.
 ghost use Rattle.std.specs.Prelude.{false, length, Some, None};
 ghost use Rattle.foreign_calls.specs.Crossing.{Called, PlanTold, CropTold};
 ghost use Rattle.boundary.specs.Families.{tent_span};
