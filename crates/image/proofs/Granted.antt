@@ -1,9 +1,12 @@
 -- What a granted check shows of a store and of a part of it.
-use Rattle.std.proofs.Common.{◌≡◌, ℕ, ◌+◌, ◌-◌, ◌*◌, ◌<◌, ◌≤◌, Bool, true, false, cond, not, ◌&&◌, ◌||◌, eqb, ltb, List, [], ◌∷◌, refl, mul-le-mul_right, mul_comm, add-mul, mul-le-mul_left, mul-add, le-mul_of_pos_right, arith}
+use Rattle.std.proofs.Common.{◌≡◌, ℕ, ◌+◌, ◌-◌, ◌*◌, ◌^◌, ◌<◌, ◌≤◌, min, Bool, true, false, cond, not, ◌&&◌, ◌||◌, eqb, ltb, List, [], ◌∷◌, refl, ap, mul-le-mul_right, mul_comm, add-mul, mul-le-mul_left, mul-add, le-mul_of_pos_right, arith}
 use Rattle.std.proofs.lemmas.Bool.Decides.{nat_tests}
 use Rattle.image.specs.Refusals.{Answer, Check, answer, and_then}
 use Rattle.image.specs.Refusals.Answer.{granted, refused}
-use Rattle.image.specs.Stores.{Numbers, pitch, row_length, needed, place, byte_limit, store_checks, part_checks, source_answer, target_answer, part_answer, same_checks, same_answer}
+use Rattle.image.specs.declared.numbers.Numbers.{Numbers}
+use Rattle.image.specs.declared.image_size.ImageSize.{ImageSize}
+use Rattle.image.specs.declared.numbers.Part.{Part}
+use Rattle.image.specs.Stores.{size_of, pitch, row_length, needed, place, byte_limit, store_checks, part_checks, part_numbers, source_answer, target_answer, part_answer, same_checks, same_answer}
 
 -- each condition of a list fails
 abbrev pub Clear : List Check → Type 0
@@ -68,6 +71,14 @@ pub target_sound : (e : ℕ) (n : Numbers) (len : ℕ) → granted ≡ target_an
 unfolding target_answer
 target_sound e n len ok = sound 3 e n len ok
 
+-- the pitch of such a store is below the largest number
+pub exact_pitch : (n : Numbers) (len p : ℕ) → Sound n len → p ≡ min (pitch n) (2 ^ 64 - 1) → p ≡ pitch n
+exact_pitch n len p a e = omega (arith, a.short)
+
+-- and then a part has the numbers defined
+pub part_is : (n m : Numbers) (len w h : ℕ) → Sound n len → m ≡ record { channels = n.channels; width = w; height = h; stride = min (pitch n) (2 ^ 64 - 1); bit_depth = n.bit_depth } → m ≡ part_numbers n w h
+part_is n m len w h a e = rw e (ap (λ p. record { channels = n.channels; width = w; height = h; stride = p; bit_depth = n.bit_depth }) (exact_pitch n len (min (pitch n) (2 ^ 64 - 1)) a refl))
+
 -- a part that lies within an image
 pub record Within (x y w h iw ih : ℕ) : Type 0 where
   pub across : x + w ≤ iw
@@ -117,12 +128,27 @@ pub joined_granted : (a b : Answer) → granted ≡ a → granted ≡ b → gran
 joined_granted granted b p q = q
 joined_granted (refused n vs) b p q = p
 
--- where a granted part of a source lies, and of a destination
-pub source_placed : (e : ℕ) (n : Numbers) (len x y w h : ℕ) → granted ≡ source_answer e n len → granted ≡ part_answer x y w h n.width n.height → Placed n len x y w h
-source_placed e n len x y w h ok cut = placed _ _ _ _ _ _ (source_sound _ _ _ ok) (within _ _ _ _ _ _ cut)
+-- a granted part's numbers, and where it lies
+pub record Cut (n : Numbers) (len : ℕ) (p : Part) (m : Numbers) : Type 0 where
+  pub numbers : m ≡ part_numbers n p.width p.height
+  pub lies : Placed n len p.x p.y p.width p.height
+  pub begins : p.y * m.stride + p.x * m.channels ≡ place n p.x p.y
 
-pub target_placed : (e : ℕ) (n : Numbers) (len x y w h : ℕ) → granted ≡ target_answer e n len → granted ≡ part_answer x y w h n.width n.height → Placed n len x y w h
-target_placed e n len x y w h ok cut = placed _ _ _ _ _ _ (target_sound _ _ _ ok) (within _ _ _ _ _ _ cut)
+cut : (n : Numbers) (len : ℕ) (s : ImageSize) (p : Part) (m : Numbers) → Sound n len → s ≡ size_of n → granted ≡ part_answer p.x p.y p.width p.height s.width s.height → m ≡ record { channels = n.channels; width = p.width; height = p.height; stride = min (pitch n) (2 ^ 64 - 1); bit_depth = n.bit_depth } → Cut n len p m
+cut n len s p m ok is within_it e =
+    let same = part_is n m len p.width p.height ok e in
+    record {
+      numbers = same;
+      lies = placed _ _ _ _ _ _ ok (within _ _ _ _ _ _ (rw is at within_it));
+      begins = ap (λ (k : Numbers). p.y * k.stride + p.x * k.channels) same;
+    }
+
+-- of a source, and of a destination
+pub source_cut : (e : ℕ) (n : Numbers) (len : ℕ) (s : ImageSize) (p : Part) (m : Numbers) → granted ≡ source_answer e n len → s ≡ size_of n → granted ≡ part_answer p.x p.y p.width p.height s.width s.height → m ≡ record { channels = n.channels; width = p.width; height = p.height; stride = min (pitch n) (2 ^ 64 - 1); bit_depth = n.bit_depth } → Cut n len p m
+source_cut e n len s p m ok is within_it same = cut n len s p m (source_sound e n len ok) is within_it same
+
+pub target_cut : (e : ℕ) (n : Numbers) (len : ℕ) (s : ImageSize) (p : Part) (m : Numbers) → granted ≡ target_answer e n len → s ≡ size_of n → granted ≡ part_answer p.x p.y p.width p.height s.width s.height → m ≡ record { channels = n.channels; width = p.width; height = p.height; stride = min (pitch n) (2 ^ 64 - 1); bit_depth = n.bit_depth } → Cut n len p m
+target_cut e n len s p m ok is within_it same = cut n len s p m (target_sound e n len ok) is within_it same
 
 -- a destination with the channels and the size of a source
 pub record SameSize (d s : Numbers) : Type 0 where

@@ -4,7 +4,8 @@ use Rattle.std.proofs.lemmas.List.{places, same_lists}
 use Rattle.std.proofs.lemmas.Bool.{cases_lt}
 use Rattle.std.proofs.lemmas.Nat.{div_below}
 use Rattle.image.specs.Rows.{part, row}
-use Rattle.image.specs.Stores.{Numbers, pitch, row_length, place, laid, pixel, image_pixel, LaidOn}
+use Rattle.image.specs.declared.numbers.Numbers.{Numbers}
+use Rattle.image.specs.Stores.{pitch, row_length, place, laid, pixel, image_pixel, LaidOn}
 use Rattle.image.proofs.Granted.{Sound}
 use Rattle.image.proofs.Strides.{row_fits}
 use Rattle.image.proofs.Painted.{length-painted, row-painted, gap_painted}

@@ -1,6 +1,11 @@
 -- Rows in a buffer, and a buffer after rows were written into it.
-use Rattle.std.specs.Prelude.{ℕ, zero, suc, ◌+◌, ◌*◌, List, [], ◌++◌, map, length, take, drop, slice_index_or}
+use Rattle.std.specs.Prelude.{ℕ, zero, suc, ◌+◌, ◌-◌, ◌*◌, ◌≤◌, List, [], ◌++◌, map, length, take, drop, slice_index_or}
 use Rattle.std.specs.List.{range_with_len}
+
+-- h rows of n elements, s apart, lie within a buffer of len elements and do not overlap
+pub record RowsFit (n s h len : ℕ) : Type 0 where
+  pub apart : n ≤ s
+  pub within : s * (h - 1) + n ≤ len
 
 module _ {E : Type 0} where
   -- the n elements from the place k on

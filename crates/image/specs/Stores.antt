@@ -1,20 +1,19 @@
 -- Stores: their numbers, their pixels, and the checks on them.
 use Rattle.std.specs.Prelude.{◌≡◌, ℕ, ◌+◌, ◌-◌, ◌*◌, ◌^◌, ◌<◌, cond, not, ◌&&◌, ◌||◌, List, [], ◌∷◌, length, ◌==◌, ◌≢◌, nat_lt, slice_index_or}
+use Rattle.image.specs.declared.numbers.Numbers.{Numbers}
+use Rattle.image.specs.declared.image_size.ImageSize.{ImageSize}
 use Rattle.image.specs.declared.image_store.ImageStore.{ImageStore}
 use Rattle.image.specs.declared.image_store.ImageStoreMut.{ImageStoreMut}
 use Rattle.image.specs.Refusals.{Answer, Check, check, answer, and_then}
 use Rattle.image.specs.Rows.{part, rows, painted, row}
 
-pub record Numbers : Type 0 where
-  pub channels : ℕ
-  pub width : ℕ
-  pub height : ℕ
-  pub stride : ℕ
-  pub depth : ℕ
-
 -- the elements from one row's start to the next: a stride of 0 means rows without gaps
 abbrev pub pitch : Numbers → ℕ
 pitch n = cond (n.stride == 0) (n.width * n.channels) n.stride
+
+-- the size of a store
+abbrev pub size_of : Numbers → ImageSize
+size_of n = record { width = n.width; height = n.height }
 
 -- the elements of one row
 abbrev pub row_length : Numbers → ℕ
@@ -62,7 +61,7 @@ part_answer x y w h iw ih = answer (part_checks x y w h iw ih)
 
 -- the numbers of such a part: it shares the image's stride, channels and depth
 abbrev pub part_numbers : Numbers → ℕ → ℕ → Numbers
-part_numbers n w h = record { channels = n.channels; width = w; height = h; stride = pitch n; depth = n.depth }
+part_numbers n w h = record { channels = n.channels; width = w; height = h; stride = pitch n; bit_depth = n.bit_depth }
 
 -- the answer of a crop of a source
 abbrev pub crop_answer : ℕ → Numbers → ℕ → ℕ → ℕ → ℕ → ℕ → Answer
@@ -106,15 +105,9 @@ module _ {E : Type 0} where
     pub gaps : (k : ℕ) (d : E) → ((x y i : ℕ) → x < n.width → y < n.height → i < n.channels → k ≢ place n x y + i) → slice_index_or ys k d ≡ slice_index_or xs k d
 
 module _ {T : Type 0} where
-  -- the numbers and the elements of the two kinds of store
-  abbrev pub numbers : ImageStore T → Numbers
-  numbers s = record { channels = s.channels; width = s.width; height = s.height; stride = s.stride; depth = s.bit_depth }
-
+  -- the elements of the two kinds of store
   abbrev pub elements : ImageStore T → List T
   elements s = s.buffer.now
-
-  abbrev pub numbers_mut : ImageStoreMut T → Numbers
-  numbers_mut s = record { channels = s.channels; width = s.width; height = s.height; stride = s.stride; depth = s.bit_depth }
 
   abbrev pub elements_mut : ImageStoreMut T → List T
   elements_mut s = s.buffer.now

@@ -7,18 +7,24 @@ pub trait Element: Copy + Drop {
 
     const NEEDS_DEPTH: bool;
 
-    // What the two constants are, for clauses.
-    ghost size: { ℕ };
+    // the two constants, for clauses
+    ghost BYTES: { ℕ };
 
-    ghost deep: { Bool };
+    ghost NEEDS_DEPTH: { Bool };
 
     fn byte_size() -> usize
-        ensures { result ≡ size };
+        ensures { result ≡ BYTES }
+    {
+        Self::BYTES
+    }
 
     fn should_have_bit_depth() -> bool
-        ensures { result ≡ deep };
+        ensures { result ≡ NEEDS_DEPTH }
+    {
+        Self::NEEDS_DEPTH
+    }
 
-    ghost sized: { 0 < size };
+    ghost sized: { 0 < BYTES };
 }
 
 impl Element for u8 {
@@ -26,19 +32,11 @@ impl Element for u8 {
 
     const NEEDS_DEPTH: bool = false;
 
-    ghost size = { 1 };
+    ghost BYTES = { 1 };
 
-    ghost deep = { false };
+    ghost NEEDS_DEPTH = { false };
 
     ghost sized = { Prim.search rules };
-
-    fn byte_size() -> usize {
-        Self::BYTES
-    }
-
-    fn should_have_bit_depth() -> bool {
-        Self::NEEDS_DEPTH
-    }
 }
 
 impl Element for u16 {
@@ -46,19 +44,11 @@ impl Element for u16 {
 
     const NEEDS_DEPTH: bool = true;
 
-    ghost size = { 2 };
+    ghost BYTES = { 2 };
 
-    ghost deep = { true };
+    ghost NEEDS_DEPTH = { true };
 
     ghost sized = { Prim.search rules };
-
-    fn byte_size() -> usize {
-        Self::BYTES
-    }
-
-    fn should_have_bit_depth() -> bool {
-        Self::NEEDS_DEPTH
-    }
 }
 
 impl Element for f32 {
@@ -66,17 +56,9 @@ impl Element for f32 {
 
     const NEEDS_DEPTH: bool = false;
 
-    ghost size = { 4 };
+    ghost BYTES = { 4 };
 
-    ghost deep = { false };
+    ghost NEEDS_DEPTH = { false };
 
     ghost sized = { Prim.search rules };
-
-    fn byte_size() -> usize {
-        Self::BYTES
-    }
-
-    fn should_have_bit_depth() -> bool {
-        Self::NEEDS_DEPTH
-    }
 }

@@ -1,9 +1,7 @@
 // The size of an image, in pixels.
-ghost use Rattle.std.specs.Prelude.{◌≡◌, ◌&&◌, ◌==◌};
-ghost use Rattle.std.specs.Cmp.Rules.{comparing};
-ghost use Rattle.std.proofs.Common.{rules};
+ghost use Rattle.std.specs.Prelude.{◌≡◌, ℕ, ◌*◌, ◌-◌, ◌^◌, min};
 
-#[derive(Clone, Copy, Debug)]
+#[derive(Clone, Copy, Debug, PartialEq, Eq)]
 pub struct ImageSize {
     pub width: usize,
     pub height: usize,
@@ -15,14 +13,13 @@ impl ImageSize {
     {
         ImageSize { width, height }
     }
-}
 
-impl PartialEq for ImageSize {
-    ghost eq = { λ a b. (a.width == b.width && a.height == b.height) };
-
-    ghost laws = { Prim.search (comparing, rules) };
-
-    fn eq(&self, other: &ImageSize) -> bool {
-        self.width == other.width && self.height == other.height
+    // The elements of an image without gaps, or the largest number where there are more.
+    pub fn elements(&self, channels: usize) -> usize
+        ensures { result ≡ min (self.now.width * self.now.height * channels) (2 ^ 64 - 1) }
+    {
+        self.width
+            .saturating_mul(self.height)
+            .saturating_mul(channels)
     }
 }

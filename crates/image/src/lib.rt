@@ -4,10 +4,15 @@
 pub mod element;
 pub mod image_size;
 pub mod image_store;
+pub mod numbers;
+pub mod rows;
+pub mod source_rows;
 pub mod support;
 pub mod validation;
 
 pub use element::Element;
 pub use image_size::ImageSize;
-pub use image_store::{ImageStore, ImageStoreMut, check_part};
+pub use image_store::{ImageStore, ImageStoreMut};
+pub use numbers::{Numbers, Part};
+pub use source_rows::SourceRows;
 pub use validation::PicScaleError;

@@ -5,6 +5,7 @@ ghost use Rattle.image.specs.declared.validation.PicScaleError.TheVariants.{OutO
 
 use crate::image_size::ImageSize;
 use std::alloc::{AllocError, AllocFailed};
+use std::fmt;
 
 #[derive(Clone, Copy, Debug)]
 pub enum PicScaleError {
@@ -77,6 +78,49 @@ impl PicScaleError {
             PicScaleError::OrderForm => 16,
             PicScaleError::OrderTooLarge => 17,
             PicScaleError::OutOfMemory => 100,
+        }
+    }
+}
+
+// The refusal's number and the values that it carries, in their order.
+impl fmt::Display for PicScaleError {
+    fn fmt<W: fmt::Write>(&self, f: &mut fmt::Formatter<W>) -> fmt::Result {
+        write!(f, "{}", self.code())?;
+        match self {
+            PicScaleError::BufferMismatch {
+                expected,
+                width,
+                height,
+                channels,
+                slice_len,
+            } => write!(f, " {expected} {width} {height} {channels} {slice_len}"),
+            PicScaleError::InvalidStride(a, b)
+            | PicScaleError::InvalidScratchSize {
+                expected: a,
+                size: b,
+            }
+            | PicScaleError::ChannelMismatch {
+                expected: a,
+                channels: b,
+            } => write!(f, " {a} {b}"),
+            PicScaleError::UnsupportedBitDepth(a)
+            | PicScaleError::ChannelCount(a)
+            | PicScaleError::DimensionLimit(a) => write!(f, " {a}"),
+            PicScaleError::InvalidSourceSize { expected, size }
+            | PicScaleError::InvalidDestinationSize { expected, size } => write!(
+                f,
+                " {} {} {} {}",
+                expected.width, expected.height, size.width, size.height
+            ),
+            PicScaleError::CropOutOfBounds {
+                x,
+                y,
+                width,
+                height,
+                image_width,
+                image_height,
+            } => write!(f, " {x} {y} {width} {height} {image_width} {image_height}"),
+            _ => Ok(()),
         }
     }
 }

@@ -1,10 +1,10 @@
 use Rattle.std.proofs.Common.{rules}
 use Rattle.image.specs.Stores.{same_answer}
-use Rattle.image.proofs.image_store.check_same.Goals as goal
+use Rattle.image.proofs.numbers.check_same.Goals as goal
 
-pub returns-then-dst_channels-src_channels : goal.returns-then-dst_channels-src_channels
+pub returns-then-dst-src : goal.returns-then-dst-src
 unfolding same_answer
-returns-then-dst_channels-src_channels c = search rules
+returns-then-dst-src c = search rules
 
 pub returns-then-ne : goal.returns-then-ne
 unfolding same_answer

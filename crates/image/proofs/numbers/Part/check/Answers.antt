@@ -1,6 +1,6 @@
 use Rattle.std.proofs.Common.{rules}
 use Rattle.image.specs.Stores.{part_answer}
-use Rattle.image.proofs.image_store.check_part.Goals as goal
+use Rattle.image.proofs.numbers.Part.check.Goals as goal
 
 pub returns-then-width-image_width : goal.returns-then-width-image_width
 unfolding part_answer

@@ -1,0 +1,54 @@
+// Reading rows, and copying them.
+ghost use Rattle.std.specs.Prelude.{◌≡◌, take, drop, min, ◌-◌, length};
+ghost use Rattle.image.specs.Rows.{RowsFit, row, painted};
+ghost use Rattle.image.specs.Images.{image_of};
+
+use crate::element::Element;
+use crate::source_rows::SourceRows;
+
+impl<'a, T> SourceRows<'a, T> {
+    // Row `y`, or nothing past the last.
+    pub fn row(&self, y: usize) -> &'a [T]
+        ensures { result.now ≡ row (image_of self.now) y }
+    {
+        if y >= self.height {
+            return &[];
+        }
+        let from = y * self.stride;
+        &self.elements[from..from + self.row_length]
+    }
+
+    // The rows from row `y` on, `count` of them or as many as there are.
+    pub fn part(&self, y: usize, count: usize) -> SourceRows<'a, T>
+        ensures image { image_of result ≡ take count (drop y (image_of self.now)) }
+        ensures width { result.row_length ≡ self.now.row_length }
+        ensures height { result.height ≡ min count (self.now.height - y) }
+    {
+        if y >= self.height {
+            return SourceRows {
+                elements: self.elements,
+                row_length: self.row_length,
+                stride: self.stride,
+                height: 0,
+            };
+        }
+        SourceRows {
+            elements: &self.elements[y * self.stride..],
+            row_length: self.row_length,
+            stride: self.stride,
+            height: count.min(self.height - y),
+        }
+    }
+}
+
+// Copies rows, and no gap.
+pub(crate) fn copy_rows<T: Element>(src: &SourceRows<'_, T>, dst: &mut [T], dst_stride: usize)
+    requires { RowsFit src.now.row_length dst_stride src.now.height (length dst.old) }
+    ensures { dst.new ≡ painted dst.old dst_stride (row (image_of src.now)) src.now.height }
+{
+    let n = src.row_length;
+    for y in 0..src.height {
+        let to = y * dst_stride;
+        dst[to..to + n].copy_from_slice(src.row(y));
+    }
+}
