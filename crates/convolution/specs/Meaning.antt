@@ -1,6 +1,6 @@
 -- What a kernel family means, and what its runs are told.
-use Rattle.std.specs.Prelude.{◌≡◌, Bool, true, List, ℕ, ◌-◌, ◌+◌, ◌*◌, ◌<◌, ◌≤◌, length}
-use Rattle.image.specs.Rows.{part, rows, row}
+use Rattle.std.specs.Prelude.{◌≡◌, Bool, true, List, ℕ, ◌*◌, ◌<◌, ◌≤◌, length}
+use Rattle.image.specs.Rows.{row}
 use Rattle.sampler.specs.declared.sampler.ResamplingFunction.{ResamplingFunction}
 use Rattle.convolution.specs.declared.convolution.ConvolutionOptions.{ConvolutionOptions}
 
@@ -34,11 +34,6 @@ pub record Ready (deep : Bool) (o : ConvolutionOptions) : Type 0 where
   pub target_height : Dimension o.dst_size.height
   pub depth : deep ≡ true → (1 ≤ o.bit_depth) × (o.bit_depth ≤ 16)
 
--- h rows of n elements, s apart, lie within a buffer of len elements and do not overlap
-pub record RowsFit (n s h len : ℕ) : Type 0 where
-  pub apart : n ≤ s
-  pub within : s * (h - 1) + n ≤ len
-
 -- the elements of one row of the source, and of the target
 abbrev pub source_row : ConvolutionOptions → ℕ
 source_row o = o.src_size.width * o.channels
@@ -46,11 +41,11 @@ source_row o = o.src_size.width * o.channels
 abbrev pub target_row : ConvolutionOptions → ℕ
 target_row o = o.dst_size.width * o.channels
 
-module _ {E : Type 0} (m : Meaning E) (o : ConvolutionOptions) (src : List E) (stride : ℕ) where
-  -- the column value at row y of the target, of the source's rows in a buffer
+module _ {E : Type 0} (m : Meaning E) (o : ConvolutionOptions) (im : List (List E)) where
+  -- the column value at row y of the target, of an image
   abbrev pub column_value : ℕ → List E
-  column_value y = m.column o.function o.channels (rows src (source_row o) stride o.src_size.height) o.dst_size.height y o.bit_depth
+  column_value y = m.column o.function o.channels im o.dst_size.height y o.bit_depth
 
-  -- the row value of row y of a buffer
+  -- the row value of row y of an image
   abbrev pub row_value : ℕ → List E
-  row_value y = m.across o.function o.channels (part (y * stride) (source_row o) src) o.dst_size.width o.bit_depth
+  row_value y = m.across o.function o.channels (row im y) o.dst_size.width o.bit_depth

@@ -1,9 +1,11 @@
 // A kernel family, by its meaning: the functions that it knows, a column value and a row value.
-ghost use Rattle.std.specs.Prelude.{◌≡◌, Bool, true, ℕ, ◌+◌, ◌-◌, ◌*◌, ◌<◌, ◌≤◌, length};
-ghost use Rattle.image.specs.Rows.{painted};
-ghost use Rattle.convolution.specs.Meaning.{Meaning, Shaped, Ready, RowsFit, source_row, target_row, column_value, row_value};
+ghost use Rattle.std.specs.Prelude.{◌≡◌, Bool, true, ℕ, ◌<◌, length};
+ghost use Rattle.image.specs.Rows.{RowsFit, painted};
+ghost use Rattle.image.specs.Images.{image_of};
+ghost use Rattle.convolution.specs.Meaning.{Meaning, Shaped, Ready, source_row, target_row, column_value, row_value};
+ghost use Rattle.convolution.specs.Sources.{IsSource};
 
-use image::{Element, ImageSize};
+use image::{Element, ImageSize, SourceRows};
 use sampler::ResamplingFunction;
 
 // What a run is told: the function, the channels, the sizes of the stage and the depth.
@@ -14,15 +16,6 @@ pub struct ConvolutionOptions {
     pub src_size: ImageSize,
     pub dst_size: ImageSize,
     pub bit_depth: usize,
-}
-
-// Where row `y` of `height` rows of `n` elements begins.
-fn row_start<T>(s: &[T], y: usize, stride: usize, height: usize, n: usize) -> usize
-    requires { (y < height) × (stride * (height - 1) + n ≤ length s.now) }
-    ensures value { result ≡ y * stride }
-    ensures within { result + n ≤ length s.now }
-{
-    y * stride
 }
 
 // Only the engine makes runs: for functions that planning found known, fitting lengths and, where one is needed, a
@@ -44,20 +37,19 @@ pub trait KernelFamily<T: Element>: Drop {
     fn run_on_column(
         &self,
         options: ConvolutionOptions,
-        src: &[T],
-        src_stride: usize,
+        src: &SourceRows<'_, T>,
         row: usize,
         dst: &mut [T],
     )
-        requires ready { Ready T.Element.deep options }
-        requires source { RowsFit (source_row options) src_stride options.src_size.height (length src.now) }
+        requires ready { Ready T.Element.NEEDS_DEPTH options }
+        requires source { IsSource options src.now }
         requires row { row < options.dst_size.height }
         requires target { length dst.old ≡ source_row options }
-        ensures { dst.new ≡ column_value (meaning self.now) options src.now src_stride row };
+        ensures { dst.new ≡ column_value (meaning self.now) options (image_of src.now) row };
 
     // The row value of one row.
     fn run_on_row(&self, options: ConvolutionOptions, src: &[T], dst: &mut [T])
-        requires ready { Ready T.Element.deep options }
+        requires ready { Ready T.Element.NEEDS_DEPTH options }
         requires source { length src.now ≡ source_row options }
         requires target { length dst.old ≡ target_row options }
         ensures { dst.new ≡ (meaning self.now).across options.function options.channels src.now options.dst_size.width options.bit_depth };
@@ -66,45 +58,39 @@ pub trait KernelFamily<T: Element>: Drop {
     fn filter_columns(
         &self,
         options: ConvolutionOptions,
-        src: &[T],
-        src_stride: usize,
+        src: &SourceRows<'_, T>,
         dst: &mut [T],
         dst_stride: usize,
     )
-        requires ready { Ready T.Element.deep options }
-        requires source { RowsFit (source_row options) src_stride options.src_size.height (length src.now) }
+        requires ready { Ready T.Element.NEEDS_DEPTH options }
+        requires source { IsSource options src.now }
         requires target { RowsFit (source_row options) dst_stride options.dst_size.height (length dst.old) }
-        ensures { dst.new ≡ painted dst.old dst_stride (column_value (meaning self.now) options src.now src_stride) options.dst_size.height }
+        ensures { dst.new ≡ painted dst.old dst_stride (column_value (meaning self.now) options (image_of src.now)) options.dst_size.height }
     {
-        let n = options.src_size.width * options.channels;
-        let height = options.dst_size.height;
-        for y in 0..height {
-            let to = row_start(dst, y, dst_stride, height, n);
-            self.run_on_column(options, src, src_stride, y, &mut dst[to..to + n]);
+        let n = src.row_length;
+        for y in 0..options.dst_size.height {
+            let to = y * dst_stride;
+            self.run_on_column(options, src, y, &mut dst[to..to + n]);
         }
     }
 
-    // The row values of `height` rows.
+    // The row values of all rows of the source.
     fn filter_rows(
         &self,
         options: ConvolutionOptions,
-        src: &[T],
-        src_stride: usize,
-        height: usize,
+        src: &SourceRows<'_, T>,
         dst: &mut [T],
         dst_stride: usize,
     )
-        requires ready { Ready T.Element.deep options }
-        requires source { RowsFit (source_row options) src_stride height (length src.now) }
-        requires target { RowsFit (target_row options) dst_stride height (length dst.old) }
-        ensures { dst.new ≡ painted dst.old dst_stride (row_value (meaning self.now) options src.now src_stride) height }
+        requires ready { Ready T.Element.NEEDS_DEPTH options }
+        requires source { src.now.row_length ≡ source_row options }
+        requires target { RowsFit (target_row options) dst_stride src.now.height (length dst.old) }
+        ensures { dst.new ≡ painted dst.old dst_stride (row_value (meaning self.now) options (image_of src.now)) src.now.height }
     {
-        let n = options.src_size.width * options.channels;
         let m = options.dst_size.width * options.channels;
-        for y in 0..height {
-            let from = row_start(src, y, src_stride, height, n);
-            let to = row_start(dst, y, dst_stride, height, m);
-            self.run_on_row(options, &src[from..from + n], &mut dst[to..to + m]);
+        for y in 0..src.height {
+            let to = y * dst_stride;
+            self.run_on_row(options, src.row(y), &mut dst[to..to + m]);
         }
     }
 
@@ -112,17 +98,17 @@ pub trait KernelFamily<T: Element>: Drop {
     fn run_on_4_rows(
         &self,
         options: ConvolutionOptions,
-        src: &[T],
-        src_stride: usize,
+        src: &SourceRows<'_, T>,
         dst: &mut [T],
         dst_stride: usize,
     )
-        requires ready { Ready T.Element.deep options }
-        requires source { RowsFit (source_row options) src_stride 4 (length src.now) }
+        requires ready { Ready T.Element.NEEDS_DEPTH options }
+        requires source { src.now.row_length ≡ source_row options }
+        requires four { src.now.height ≡ 4 }
         requires target { RowsFit (target_row options) dst_stride 4 (length dst.old) }
-        ensures { dst.new ≡ painted dst.old dst_stride (row_value (meaning self.now) options src.now src_stride) 4 }
+        ensures { dst.new ≡ painted dst.old dst_stride (row_value (meaning self.now) options (image_of src.now)) 4 }
     {
-        self.filter_rows(options, src, src_stride, 4, dst, dst_stride);
+        self.filter_rows(options, src, dst, dst_stride);
     }
 
     ghost shaped: { (s : Self) → Shaped (meaning s) };

@@ -1,5 +1,5 @@
 // Reading rows, and copying them.
-ghost use Rattle.std.specs.Prelude.{◌≡◌, take, drop, min, ◌-◌, length};
+ghost use Rattle.std.specs.Prelude.{◌≡◌, ◌-◌, ◌<◌, min, length, take, drop};
 ghost use Rattle.image.specs.Rows.{RowsFit, row, painted};
 ghost use Rattle.image.specs.Images.{image_of};
 
@@ -9,7 +9,8 @@ use crate::source_rows::SourceRows;
 impl<'a, T> SourceRows<'a, T> {
     // Row `y`, or nothing past the last.
     pub fn row(&self, y: usize) -> &'a [T]
-        ensures { result.now ≡ row (image_of self.now) y }
+        ensures row { result.now ≡ row (image_of self.now) y }
+        ensures length { y < self.now.height → length result.now ≡ self.now.row_length }
     {
         if y >= self.height {
             return &[];

@@ -3,4 +3,4 @@
 
 pub mod sampler;
 
-pub use sampler::{ResamplingFilter, ResamplingFunction};
+pub use sampler::{ResamplingFilter, ResamplingFunction, UnknownPlace};

@@ -1,8 +1,8 @@
-use Rattle.std.proofs.Common.{length, refl, ap, rules, arith}
+use Rattle.std.proofs.Common.{length, refl, rules, arith}
 use Rattle.std.proofs.lemmas.List.{places}
 use Rattle.image.proofs.Paint.{painted_none, painted_more}
 use Rattle.image.proofs.Strides.{row_fits}
-use Rattle.image.proofs.RowsOf.{row-rows, rows_even, length-rows}
+use Rattle.image.proofs.RowsOf.{row-rows}
 use Rattle.image.proofs.rows.copy_rows.Goals as goal
 
 pub loop-y-init : goal.loop-y-init
@@ -21,6 +21,5 @@ pub copy_from_slice-requires : goal.copy_from_slice-requires
 copy_from_slice-requires g c =
     let r = c.args.src.now in
     let w = row_fits c.loop-y.y r.height c.args.dst_stride r.row_length (length c.loop-y.dst) (omega arith) (omega arith) in
-    let long = rows_even r.elements.now r.row_length r.stride r.height r.fit.within c.loop-y.y (omega (arith, length-rows r.elements.now r.row_length r.stride r.height)) in
-    let same = ap length c.row.ensures in
+    let long = c.row.ensures.length c.loop-y-test.true in
     search (rules, places)

@@ -1,0 +1,9 @@
+// The lengths of one axis, in pixels.
+ghost use Rattle.convolution.specs.Meaning.{Dimension};
+
+#[derive(Drop)]
+pub struct Axis {
+    pub source: usize,
+    pub target: usize,
+    ghost lengths: { Dimension source × Dimension target },
+}
