@@ -1,7 +1,8 @@
 -- Examples worked by hand, of stores, stages, families and plans: what the definitions give.
 use Rattle.std.specs.Prelude.{true, false, [], ◌∷◌, ◌++◌, ◌≡◌, ℕ}
 use Rattle.image.specs.Refusals.Answer.{granted, refused}
-use Rattle.image.specs.Stores.{Numbers, source_answer}
+use Rattle.image.specs.declared.numbers.Numbers.{Numbers}
+use Rattle.image.specs.Stores.{source_answer}
 use Rattle.image.specs.declared.image_size.ImageSize.{ImageSize}
 use Rattle.sampler.specs.declared.sampler.ResamplingFunction.{ResamplingFunction}
 use Rattle.sampler.specs.declared.sampler.ResamplingFunction.TheVariants.{Bilinear, Nearest, Cubic, Box}

@@ -2,7 +2,7 @@
 use Rattle.std.specs.Prelude.{ℕ, Bool, cond, List, [], ◌∷◌, length, Some, None, Option, nat_lt, slice_index}
 use Rattle.image.specs.Refusals.{Answer, check, answer, and_then}
 use Rattle.image.specs.Refusals.Answer.{granted, refused}
-use Rattle.image.specs.Stores.{Numbers as OfStore}
+use Rattle.image.specs.declared.numbers.Numbers.{Numbers as OfStore}
 use Rattle.image.specs.declared.image_size.ImageSize.{ImageSize}
 use Rattle.sampler.specs.Functions.{function_at, place}
 use Rattle.sampler.specs.declared.sampler.ResamplingFunction.{ResamplingFunction}

@@ -82,7 +82,7 @@ fn call_on<T: Element, F: KernelFamily<T>>(
     first: &mut [T],
     second: &mut [T],
 ) -> Result<(), PicScaleError>
-    ensures step { Step T.Element.size T.Element.deep (call_by (F.KernelFamily.meaning plan.now.family) (request_of plan.now) (window_of window) source.now from.now work.old first.old second.old) (sheet_on sheet.now into.old) (reply result) (sheet_on sheet.now into.new) }
+    ensures step { Step T.Element.BYTES T.Element.NEEDS_DEPTH (call_by (F.KernelFamily.meaning plan.now.family) (request_of plan.now) (window_of window) source.now from.now work.old first.old second.old) (sheet_on sheet.now into.old) (reply result) (sheet_on sheet.now into.new) }
     ensures kept { is_ok result ≡ false → (work.new ≡ work.old) × (first.new ≡ first.old) × (second.new ≡ second.old) }
 {
     let source = ImageStore {
@@ -132,7 +132,7 @@ pub fn call_by<T: Element, F: KernelFamily<T>>(
     first: &mut [T],
     second: &mut [T],
 ) -> Result<(), PicScaleError>
-    ensures { Crossing T.Element.size T.Element.deep (request_answer (F.KernelFamily.meaning family).knows request.now) (call_by (F.KernelFamily.meaning family) (request_for request.now) (window_of window) source.now from.now work.old first.old second.old) (sheet_on sheet.now into.old) (reply result) (sheet_on sheet.now into.new) work.new first.new second.new }
+    ensures { Crossing T.Element.BYTES T.Element.NEEDS_DEPTH (request_answer (F.KernelFamily.meaning family).knows request.now) (call_by (F.KernelFamily.meaning family) (request_for request.now) (window_of window) source.now from.now work.old first.old second.old) (sheet_on sheet.now into.old) (reply result) (sheet_on sheet.now into.new) work.new first.new second.new }
 {
     let plan = planned::<T, F>(heap, family, request)?;
     call_on(
@@ -190,7 +190,7 @@ pub fn crop_by<T: Element>(
     cropped: &mut Numbers,
     count: &mut usize,
 ) -> Result<(), PicScaleError>
-    ensures reply { reply result ≡ crop_answer T.Element.size (numbers_of source.now) (length from.now) part.now.x part.now.y part.now.width part.now.height }
+    ensures reply { reply result ≡ crop_answer T.Element.BYTES (numbers_of source.now) (length from.now) part.now.x part.now.y part.now.width part.now.height }
     ensures part { OnOk result ((numbers_of cropped.new ≡ part_numbers (numbers_of source.now) part.now.width part.now.height) × (count.new ≡ length from.now - place (numbers_of source.now) part.now.x part.now.y)) }
     ensures kept { is_ok result ≡ false → (cropped.new ≡ cropped.old) × (count.new ≡ count.old) }
 {

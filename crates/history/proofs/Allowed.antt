@@ -4,7 +4,8 @@ use Rattle.std.proofs.lemmas.Bool.{and_parts, leb-true, ltb-true, false≢true}
 use Rattle.std.proofs.lemmas.Bool.Decides.{nat_tests}
 use Rattle.image.specs.Refusals.{Answer}
 use Rattle.image.specs.Refusals.Answer.{granted, refused}
-use Rattle.image.specs.Stores.{Numbers, pitch, row_length, place, part_numbers}
+use Rattle.image.specs.declared.numbers.Numbers.{Numbers}
+use Rattle.image.specs.Stores.{pitch, row_length, place, part_numbers}
 use Rattle.image.proofs.Granted.{Clear, clear, both_granted, Sound, source_sound, target_sound, Within, within}
 use Rattle.history.specs.Calls.{Request, Window, Asked, Call, Store, Area, area, covers, asked, match_checks, match_answer, resample_answer, answer_by, answer_of, answer_to, is_granted, over}
 use Rattle.history.specs.Calls.Window.{whole, part}

@@ -2,7 +2,8 @@
 use Rattle.std.proofs.Common.{◌≡◌, ℕ, ◌+◌, ◌*◌, ◌/◌, ◌%◌, ◌<◌, List, length, get_or, sym, ap, ◌∙◌, inl, inr, mod-lt, mul-zero, div-add-mod', arith}
 use Rattle.std.proofs.lemmas.Nat.{div_below}
 use Rattle.std.proofs.lemmas.Bool.{cases_lt}
-use Rattle.image.specs.Stores.{Numbers, pitch, row_length, place, pixel, image}
+use Rattle.image.specs.declared.numbers.Numbers.{Numbers}
+use Rattle.image.specs.Stores.{pitch, row_length, place, pixel, image}
 use Rattle.values.proofs.Copies.{listed_same}
 use Rattle.history.specs.Calls.{Store}
 use Rattle.history.proofs.Places.{element, part_same}

@@ -2,7 +2,8 @@
 use Rattle.std.proofs.Common.{◌≡◌, ℕ, ◌+◌, ◌-◌, ◌<◌, Bool, true, false, ◌&&◌, ◌⊎◌, List, ◌∷◌, length, get_or, sym, refl, ap, ◌∙◌, subst, ap₂, inl, inr}
 use Rattle.std.proofs.lemmas.Bool.{cases_Bool, both_ways}
 use Rattle.image.specs.Refusals.{Answer}
-use Rattle.image.specs.Stores.{Numbers, place, pixel, image_pixel}
+use Rattle.image.specs.declared.numbers.Numbers.{Numbers}
+use Rattle.image.specs.Stores.{place, pixel, image_pixel}
 use Rattle.history.specs.Calls.{Call, Store, answer_of, answer_to, asked, area, covers, is_granted, plan_value, over, due, Step}
 use Rattle.history.specs.Past.{Entry, calls, All, Past, Latest, Right, Untouched}
 use Rattle.history.specs.Past.Past.{fresh, next}
@@ -19,7 +20,7 @@ module _ {E : Type 0} (size : ℕ) (deep : Bool) where
   due_same : (c : Call E) (s t : Store E) (x y : ℕ) → s.numbers ≡ t.numbers → due size deep c s x y ≡ due size deep c t x y
   unfolding due
   due_same c s t x y p =
-      ap (λ n. image_pixel n.channels (plan_value c n.depth) (x - (area n c.window).left) (y - (area n c.window).top)) p
+      ap (λ n. image_pixel n.channels (plan_value c n.bit_depth) (x - (area n c.window).left) (y - (area n c.window).top)) p
 
   -- what the past shows, before the pixels are counted
   pub record Held (made : Store E) (es : List (Entry E)) (s : Store E) : Type 0 where

@@ -3,7 +3,8 @@ use Rattle.std.proofs.Common.{◌≡◌, ℕ, ◌+◌, ◌*◌, ◌/◌, ◌%◌
 use lib.Arith.{digits_lt, digits_div, digits_mod}
 use Rattle.std.proofs.lemmas.List.{same_lists, get_or-take, get_or-drop, length-take, length-drop}
 use Rattle.image.specs.Rows.{part}
-use Rattle.image.specs.Stores.{Numbers, pitch, place, pixel}
+use Rattle.image.specs.declared.numbers.Numbers.{Numbers}
+use Rattle.image.specs.Stores.{pitch, place, pixel}
 use Rattle.history.proofs.Allowed.{Fit}
 
 -- the row, and the column, of an element that is in a pixel

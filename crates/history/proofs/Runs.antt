@@ -15,7 +15,7 @@ use Rattle.history.proofs.Unseen.{unseen}
 module _ {E : Type 0} (size : ℕ) (deep : Bool) where
   step_exists : (c : Call E) (s : Store E) → Shaped c.meaning → (a : Answer) → a ≡ answer_to size deep c s → (t : Store E) × Step size deep c s a t
   step_exists c s shaped granted told = (
-    record { numbers = s.numbers; elements = stamped s.numbers c.window (plan_value c s.numbers.depth) s.elements },
+    record { numbers = s.numbers; elements = stamped s.numbers c.window (plan_value c s.numbers.bit_depth) s.elements },
     granted_step size deep c s _ shaped told refl refl,
   )
   step_exists c s shaped (refused n vs) told = (s, refused_step size deep c s s n vs told refl refl)

@@ -2,7 +2,8 @@
 use Rattle.std.proofs.Common.{◌≡◌, ℕ, ◌+◌, ◌/◌, ◌%◌, ◌<◌, Bool, ◌⊎◌, List, [], ◌∷◌, get_or, sym, ap, ◌∙◌, subst, inl, inr, mod-lt, div-add-mod', arith}
 use Rattle.std.proofs.lemmas.List.{same_lists}
 use Rattle.std.proofs.lemmas.Bool.{cases_Bool, both_ways}
-use Rattle.image.specs.Stores.{Numbers, pitch, place, pixel}
+use Rattle.image.specs.declared.numbers.Numbers.{Numbers}
+use Rattle.image.specs.Stores.{pitch, place, pixel}
 use Rattle.history.specs.Calls.{Call, Store, over, due}
 use Rattle.history.specs.Past.{Entry, calls, Latest, Untouched}
 use Rattle.history.specs.Past.Latest.{here, before}

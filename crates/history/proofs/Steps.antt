@@ -3,7 +3,8 @@ use Rattle.std.proofs.Common.{◌≡◌, ℕ, ◌+◌, ◌-◌, ◌*◌, ◌<◌
 use Rattle.std.proofs.lemmas.Bool.{and_from, le-leb, lt-ltb}
 use Rattle.image.specs.Refusals.{Answer}
 use Rattle.image.specs.Refusals.Answer.{granted, refused}
-use Rattle.image.specs.Stores.{Numbers, pitch, row_length, pixel, image, image_pixel}
+use Rattle.image.specs.declared.numbers.Numbers.{Numbers}
+use Rattle.image.specs.Stores.{pitch, row_length, pixel, image, image_pixel}
 use Rattle.image.proofs.Granted.{Sound}
 use Rattle.image.proofs.RowsOf.{length-rows}
 use Rattle.image.proofs.Copied.{image_even}
@@ -69,17 +70,17 @@ module _ {E : Type 0} (size : ℕ) (deep : Bool) where
       and_from (is_granted (answer_to size deep c s)) (covers (area s.numbers c.window) x y)
       (ap is_granted (sym ok)) (covers_inside (area s.numbers c.window) x y i)
 
-  due_is : (c : Call E) (s : Store E) (x y : ℕ) → image_pixel s.numbers.channels (plan_value c s.numbers.depth) (x - (area s.numbers c.window).left) (y - (area s.numbers c.window).top) ≡ due size deep c s x y
+  due_is : (c : Call E) (s : Store E) (x y : ℕ) → image_pixel s.numbers.channels (plan_value c s.numbers.bit_depth) (x - (area s.numbers c.window).left) (y - (area s.numbers c.window).top) ≡ due size deep c s x y
   unfolding due
   due_is c s x y = refl
 
   -- a granted call with its plan's value in its window
-  pub granted_step : (c : Call E) (s t : Store E) → Shaped c.meaning → granted ≡ answer_to size deep c s → t.numbers ≡ s.numbers → t.elements ≡ stamped s.numbers c.window (plan_value c s.numbers.depth) s.elements → Step size deep c s granted t
+  pub granted_step : (c : Call E) (s t : Store E) → Shaped c.meaning → granted ≡ answer_to size deep c s → t.numbers ≡ s.numbers → t.elements ≡ stamped s.numbers c.window (plan_value c s.numbers.bit_depth) s.elements → Step size deep c s granted t
   granted_step c s t shaped ok same e =
       let n = s.numbers in
-      let im = plan_value c n.depth in
+      let im = plan_value c n.bit_depth in
       let a : Allowed (asked c n (length s.elements)) c.window = allowed size deep (asked c n (length s.elements)) ok in
-      let v = value_sized c (window_numbers n c.window) n.depth shaped a.resample.matched a.resample.source a.resample.target.some_width a.resample.target.some_height in
+      let v = value_sized c (window_numbers n c.window) n.bit_depth shaped a.resample.matched a.resample.source a.resample.target.some_width a.resample.target.some_height in
       let l : LaidIn n (area n c.window) im s.elements t.elements =
       subst (LaidIn n (area n c.window) im s.elements) (sym e) (laid_in c.window (asked c n (length s.elements)) im s.elements a refl v.even) in
       record {
@@ -101,6 +102,6 @@ module _ {E : Type 0} (size : ℕ) (deep : Bool) where
   }
 
   -- both at once, of the answer that the caller was told
-  pub answered_step : (c : Call E) (s t : Store E) (a : Answer) → Shaped c.meaning → a ≡ answer_to size deep c s → t.numbers ≡ s.numbers → (granted ≡ a → t.elements ≡ stamped s.numbers c.window (plan_value c s.numbers.depth) s.elements) → (is_granted a ≡ false → t.elements ≡ s.elements) → Step size deep c s a t
+  pub answered_step : (c : Call E) (s t : Store E) (a : Answer) → Shaped c.meaning → a ≡ answer_to size deep c s → t.numbers ≡ s.numbers → (granted ≡ a → t.elements ≡ stamped s.numbers c.window (plan_value c s.numbers.bit_depth) s.elements) → (is_granted a ≡ false → t.elements ≡ s.elements) → Step size deep c s a t
   answered_step c s t granted shaped told same laid kept = granted_step c s t shaped told same (laid refl)
   answered_step c s t (refused n vs) shaped told same laid kept = refused_step c s t n vs told same (kept refl)

@@ -1,6 +1,7 @@
 -- What work buffers, halves, gaps and pixels outside the source hold is not seen.
 use Rattle.std.proofs.Common.{◌≡◌, ℕ, ◌-◌, Bool, ◌&&◌, List, [], ◌∷◌, length, sym, refl, ap, ◌∙◌, subst, ap₂, inl, inr}
-use Rattle.image.specs.Stores.{Numbers, image_pixel}
+use Rattle.image.specs.declared.numbers.Numbers.{Numbers}
+use Rattle.image.specs.Stores.{image_pixel}
 use Rattle.values.specs.Values.{composed}
 use Rattle.history.specs.Calls.{Call, Store, steps, answer_of, answer_to, asked, area, covers, is_granted, over, due}
 use Rattle.history.specs.Past.{Entry, calls, answers, All, Past, Latest}
@@ -35,7 +36,7 @@ module _ {E : Type 0} (size : ℕ) (deep : Bool) where
   unfolding due
   due_alike c d s x y a =
       let im = images c.source d.source a.source_numbers a.source_length a.source_pixels in
-      λ i. image_pixel s.numbers.channels (composed (a.meaning i) (a.request i).channels s.numbers.depth (steps (a.request i)) (im i))
+      λ i. image_pixel s.numbers.channels (composed (a.meaning i) (a.request i).channels s.numbers.bit_depth (steps (a.request i)) (im i))
       (x - (area s.numbers (a.window i)).left) (y - (area s.numbers (a.window i)).top)
 
   latest_alike : (made : Store E) (x y : ℕ) (c : Call E) (cs ds : List (Call E)) → AllAlike cs ds → Latest size deep made x y c cs → (d : Call E) × Latest size deep made x y d ds × (due size deep c made x y ≡ due size deep d made x y)

@@ -4,7 +4,8 @@ use native.Mathlib.Nat.{sub-zero}
 use Rattle.std.proofs.lemmas.List.{places, same_lists, get_or-drop, length-drop}
 use Rattle.std.proofs.lemmas.Bool.{cases_lt, cond-false, ne_eqb}
 use Rattle.image.specs.Rows.{part as part_of, put, row}
-use Rattle.image.specs.Stores.{Numbers, pitch, row_length, place, pixel, image_pixel, laid, LaidOn, part_numbers}
+use Rattle.image.specs.declared.numbers.Numbers.{Numbers}
+use Rattle.image.specs.Stores.{pitch, row_length, place, pixel, image_pixel, laid, LaidOn, part_numbers}
 use Rattle.image.proofs.Granted.{Sound, placed}
 use Rattle.image.proofs.Laid.{laid_on}
 use Rattle.image.proofs.Puts.{length-put, get_or-put_below, get_or-put_in, get_or-put_above}

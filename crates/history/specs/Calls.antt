@@ -3,7 +3,8 @@ use Rattle.std.specs.Prelude.{◌≡◌, ℕ, ◌+◌, ◌-◌, ◌<◌, Bool, t
 use Rattle.image.specs.declared.image_size.ImageSize.{ImageSize}
 use Rattle.image.specs.Refusals.{Answer, Check, check, answer, and_then}
 use Rattle.image.specs.Refusals.Answer.{granted, refused}
-use Rattle.image.specs.Stores.{Numbers, place, pixel, image, image_pixel, source_answer, target_answer, part_answer, part_numbers}
+use Rattle.image.specs.declared.numbers.Numbers.{Numbers}
+use Rattle.image.specs.Stores.{place, pixel, image, image_pixel, source_answer, target_answer, part_answer, part_numbers}
 use Rattle.sampler.specs.Functions.{is_nearest}
 use Rattle.convolution.specs.Meaning.{Meaning}
 use Rattle.planner.specs.declared.scaler.Scaler.{Scaler}
@@ -94,7 +95,7 @@ module _ (size : ℕ) (deep : Bool) where
       and_then (target_answer size d d_length)
       (and_then (source_answer size q.source q.source_length)
       (and_then (match_answer q.request d q.source)
-      (buffer_answer deep q.request d.depth q.work_length q.first_length q.second_length)))
+      (buffer_answer deep q.request d.bit_depth q.work_length q.first_length q.second_length)))
 
   abbrev pub answer_by : Window → Asked → Answer
   answer_by whole q = resample_answer q q.sheet q.sheet_length
@@ -153,7 +154,7 @@ module _ {E : Type 0} (size : ℕ) (deep : Bool) where
   -- the pixel of the plan's value for the place x, y of the sheet
   unfoldable pub due : Call E → Store E → ℕ → ℕ → List E
   due c s x y =
-      image_pixel s.numbers.channels (plan_value c s.numbers.depth)
+      image_pixel s.numbers.channels (plan_value c s.numbers.bit_depth)
       (x - (area s.numbers c.window).left) (y - (area s.numbers c.window).top)
 
   -- What one call does: the sheet s before, its answer, the sheet t after.

@@ -1,7 +1,7 @@
 -- A call on pixels without gaps.
 use Rattle.std.specs.Prelude.{ℕ, ◌*◌, List}
 use Rattle.image.specs.Rows.{row, rows, joined}
-use Rattle.image.specs.Stores.{Numbers}
+use Rattle.image.specs.declared.numbers.Numbers.{Numbers}
 use Rattle.image.specs.declared.image_size.ImageSize.{ImageSize}
 use Rattle.convolution.specs.Meaning.{Meaning}
 use Rattle.planner.specs.declared.plan.ResamplingPlan.{ResamplingPlan}

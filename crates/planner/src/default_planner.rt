@@ -65,7 +65,7 @@ fn choose_strategy(scaler: Scaler, source: ImageSize, target: ImageSize) -> Stra
     ensures stages { stages_of scaler source target ≡ stages_by result scaler.function source target }
     ensures suits { Suits result source target }
 {
-    if scaler.function == ResamplingFunction::Nearest {
+    if scaler.function.is_nearest() {
         return Strategy::SingleStep;
     }
     if asked_within(scaler.multi_step_upscaling, source, target) {

@@ -30,7 +30,7 @@ pub struct Stage {
 fn kind_between(function: ResamplingFunction, source: ImageSize, target: ImageSize) -> StageKind
     ensures { result ≡ kind_of function source target }
 {
-    if function == ResamplingFunction::Nearest {
+    if function.is_nearest() {
         return StageKind::Sampled;
     }
     let same_width = source.width == target.width;

@@ -6,7 +6,8 @@ use Rattle.image.specs.declared.image_size.ImageSize.{ImageSize}
 use Rattle.image.proofs.Strides.{row_fits}
 use Rattle.image.proofs.RowsOf.{length-rows, row-rows, rows_even}
 use Rattle.image.proofs.Painted.{row-painted}
-use Rattle.convolution.specs.Meaning.{RowsFit}
+use Rattle.image.specs.Rows.{RowsFit}
+use Rattle.convolution.specs.Meaning.{}
 use Rattle.planner.specs.Plans.{area}
 use Rattle.values.proofs.Shapes.{Sized}
 

@@ -10,7 +10,8 @@ use Rattle.planner.specs.Stages.{stages_of}
 use Rattle.planner.specs.Chains.{WellSized, Each, Linked}
 use Rattle.planner.specs.Plans.{needs_kernel, work_of, half_of}
 use Rattle.image.specs.Rows.{row, rows, painted}
-use Rattle.convolution.specs.Meaning.{Meaning, RowsFit}
+use Rattle.image.specs.Rows.{RowsFit}
+use Rattle.convolution.specs.Meaning.{Meaning}
 use Rattle.values.specs.Values.{composed}
 use Rattle.resampling.specs.declared.multi_step_plan.Settings.{Settings}
 use Rattle.resampling.specs.Running.{AllRunnable, Roomy}

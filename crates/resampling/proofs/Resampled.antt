@@ -4,11 +4,13 @@ use Rattle.std.proofs.lemmas.Bool.Decides.{nat_tests}
 use Rattle.image.specs.Refusals.{Answer, answer, and_then}
 use Rattle.image.specs.Refusals.Answer.{granted, refused}
 use Rattle.image.specs.Rows.{row, rows, painted}
-use Rattle.image.specs.Stores.{Numbers, pitch, image, laid, same_answer}
+use Rattle.image.specs.declared.numbers.Numbers.{Numbers}
+use Rattle.image.specs.Stores.{pitch, image, laid, same_answer}
 use Rattle.image.specs.declared.image_size.ImageSize.{ImageSize}
 use Rattle.image.proofs.Granted.{Sound, Clear, clear, at_most}
 use Rattle.sampler.specs.Functions.{is_nearest}
-use Rattle.convolution.specs.Meaning.{Meaning, RowsFit}
+use Rattle.image.specs.Rows.{RowsFit}
+use Rattle.convolution.specs.Meaning.{Meaning}
 use Rattle.planner.specs.declared.stage.Stage.{Stage}
 use Rattle.planner.specs.Stages.{same_size}
 use Rattle.values.specs.Values.{composed}

@@ -3,7 +3,8 @@ use Rattle.std.proofs.Common.{◌≡◌, ℕ, suc, ◌+◌, ◌-◌, ◌*◌, �
 use Rattle.image.specs.Rows.{part, rows, row, listed, painted}
 use Rattle.image.proofs.Painted.{row-painted}
 use Rattle.image.proofs.RowsOf.{length-rows, row_listed, row-rows, rows_even, painted_same, painted-listed}
-use Rattle.convolution.specs.Meaning.{Meaning, Shaped, RowsFit, source_row, target_row, column_value, row_value}
+use Rattle.image.specs.Rows.{RowsFit}
+use Rattle.convolution.specs.Meaning.{Meaning, Shaped, source_row, target_row, column_value, row_value}
 use Rattle.convolution.specs.declared.convolution.ConvolutionOptions.{ConvolutionOptions}
 use Rattle.planner.specs.declared.stage.StageKind.TheVariants.{Vertical, Horizontal, Both}
 use Rattle.resampling.specs.Runs.{stage_painted, both_row}

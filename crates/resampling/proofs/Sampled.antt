@@ -3,7 +3,8 @@ use Rattle.std.proofs.Common.{◌≡◌, ℕ, ◌*◌, ◌<◌, ◌≤◌, false
 use Rattle.std.proofs.lemmas.Bool.Decides.{nat_tests}
 use Rattle.image.specs.Refusals.Answer.{granted}
 use Rattle.image.specs.Rows.{part, rows, row, painted}
-use Rattle.image.specs.Stores.{Numbers, pitch, row_length, image, laid, LaidOn}
+use Rattle.image.specs.declared.numbers.Numbers.{Numbers}
+use Rattle.image.specs.Stores.{pitch, row_length, image, laid, LaidOn}
 use Rattle.image.specs.declared.image_size.ImageSize.{ImageSize}
 use Rattle.image.proofs.Copied.{image_even}
 use Rattle.image.proofs.Granted.{Clear, clear, at_most, Sound}

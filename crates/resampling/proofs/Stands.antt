@@ -5,7 +5,8 @@ use Rattle.image.specs.declared.validation.PicScaleError.{PicScaleError}
 use Rattle.image.specs.Refusals.{Answer, reply, and_then}
 use Rattle.image.specs.Refusals.Answer.{granted, refused}
 use Rattle.image.specs.Rows.{put}
-use Rattle.image.specs.Stores.{Numbers, pitch, place, laid, part_numbers}
+use Rattle.image.specs.declared.numbers.Numbers.{Numbers}
+use Rattle.image.specs.Stores.{pitch, place, laid, part_numbers}
 use Rattle.image.proofs.Paint.{put_mid-put}
 use Rattle.history.specs.Calls.{Call, Store, is_granted, Step}
 use Rattle.history.specs.Past.{Entry, Past, Upheld}

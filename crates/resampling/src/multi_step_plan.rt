@@ -2,7 +2,8 @@
 ghost use Rattle.std.specs.Prelude.{◌≡◌, ℕ, ◌+◌, ◌-◌, ◌*◌, ◌<◌, ◌≤◌, true, false, not, [], ◌∷◌, ◌++◌, length, take, if◌then◌else◌};
 ghost use Rattle.image.specs.Rows.{rows, row, painted};
 ghost use Rattle.image.specs.declared.image_size.ImageSize.{ImageSize};
-ghost use Rattle.convolution.specs.Meaning.{RowsFit, Dimension};
+ghost use Rattle.image.specs.Rows.{RowsFit};
+ghost use Rattle.convolution.specs.Meaning.{Dimension};
 ghost use Rattle.planner.specs.Chains.{Linked, Dimensions};
 ghost use Rattle.planner.specs.Plans.{area};
 ghost use Rattle.planner.specs.Plan.{plan_stages, plan_work, plan_half};
@@ -56,7 +57,7 @@ pub(crate) fn run_stage<T: Element, F: KernelFamily<T>>(
     dst: &mut [T],
     dst_stride: usize,
 )
-    requires ready { Runnable T.Element.deep settings (length work.old) stage }
+    requires ready { Runnable T.Element.NEEDS_DEPTH settings (length work.old) stage }
     requires source { RowsFit (stage.source.width * settings.channels) src_stride stage.source.height (length src.now) }
     requires target { RowsFit (stage.target.width * settings.channels) dst_stride stage.target.height (length dst.old) }
     ensures { dst.new ≡ painted dst.old dst_stride (row (stage_value (F.KernelFamily.meaning family.now) settings.channels settings.depth stage (rows src.now (stage.source.width * settings.channels) src_stride stage.source.height))) stage.target.height }
@@ -133,7 +134,7 @@ fn run_packed<T: Element, F: KernelFamily<T>>(
     work: &mut [T],
     dst: &mut [T],
 )
-    requires ready { Runnable T.Element.deep settings (length work.old) stage }
+    requires ready { Runnable T.Element.NEEDS_DEPTH settings (length work.old) stage }
     requires source { area settings.channels stage.source ≤ length src.now }
     requires target { area settings.channels stage.target ≤ length dst.old }
     ensures { packed settings.channels stage.target dst.new ≡ stage_value (F.KernelFamily.meaning family.now) settings.channels settings.depth stage (packed settings.channels stage.source src.now) }
@@ -155,7 +156,7 @@ fn turn<T: Element, F: KernelFamily<T>>(
     flipped: bool,
     work: &mut [T],
 )
-    requires ready { Runnable T.Element.deep settings (length work.old) stage }
+    requires ready { Runnable T.Element.NEEDS_DEPTH settings (length work.old) stage }
     requires first { (area settings.channels stage.source ≤ length first.old) × (area settings.channels stage.target ≤ length first.old) }
     requires second { (area settings.channels stage.source ≤ length second.old) × (area settings.channels stage.target ≤ length second.old) }
     ensures { packed settings.channels stage.target (if not flipped then second.new else first.new) ≡ stage_value (F.KernelFamily.meaning family.now) settings.channels settings.depth stage (packed settings.channels stage.source (if flipped then second.old else first.old)) }
@@ -179,7 +180,7 @@ fn middle<T: Element, F: KernelFamily<T>>(
     work: &mut [T],
 ) -> (bool, ImageSize)
     requires linked { Linked start (end_of start stages.now) stages.now }
-    requires ready { AllRunnable T.Element.deep settings (length work.old) stages.now }
+    requires ready { AllRunnable T.Element.NEEDS_DEPTH settings (length work.old) stages.now }
     requires began { (area settings.channels start ≤ length first.old) × (area settings.channels start ≤ length second.old) }
     requires room { Roomy settings.channels (length first.old) stages.now × Roomy settings.channels (length second.old) stages.now }
     ensures value { packed settings.channels (end_of start stages.now) (if result.0 then second.new else first.new) ≡ composed (F.KernelFamily.meaning family.now) settings.channels settings.depth stages.now (packed settings.channels start first.old) }
@@ -212,7 +213,7 @@ fn run_chain<T: Element, F: KernelFamily<T>>(
     dst_stride: usize,
 )
     requires linked { Linked head.target tail.source inner.now }
-    requires ready { Runnable T.Element.deep settings (length work.old) head × AllRunnable T.Element.deep settings (length work.old) inner.now × Runnable T.Element.deep settings (length work.old) tail }
+    requires ready { Runnable T.Element.NEEDS_DEPTH settings (length work.old) head × AllRunnable T.Element.NEEDS_DEPTH settings (length work.old) inner.now × Runnable T.Element.NEEDS_DEPTH settings (length work.old) tail }
     requires first { Roomy settings.channels (length first.old) (head ∷ inner.now) }
     requires second { Roomy settings.channels (length second.old) (head ∷ inner.now) }
     requires source { RowsFit (head.source.width * settings.channels) src_stride head.source.height (length src.now) }
@@ -248,7 +249,7 @@ pub(crate) fn run_plan<T: Element, F: KernelFamily<T>>(
     dst: &mut [T],
     dst_stride: usize,
 )
-    requires depth { is_nearest plan.now.scaler.function ≡ false → T.Element.deep ≡ true → (1 ≤ depth) × (depth ≤ 16) }
+    requires depth { is_nearest plan.now.scaler.function ≡ false → T.Element.NEEDS_DEPTH ≡ true → (1 ≤ depth) × (depth ≤ 16) }
     requires work { plan_work plan.now ≤ length work.old }
     requires halves { (plan_half plan.now ≤ length first.old) × (plan_half plan.now ≤ length second.old) }
     requires source { RowsFit (plan.now.source_size.width * plan.now.channels) src_stride plan.now.source_size.height (length src.now) }

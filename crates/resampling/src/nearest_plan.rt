@@ -3,7 +3,8 @@ ghost use Rattle.std.specs.Prelude.{◌≡◌, ◌*◌, ◌<◌, ◌≤◌, leng
 ghost use Rattle.image.specs.Refusals.{reply};
 ghost use Rattle.image.specs.Rows.{rows, row, painted};
 ghost use Rattle.image.specs.Stores.{numbers, elements, numbers_mut, elements_mut, laid, LaidOn};
-ghost use Rattle.convolution.specs.Meaning.{Dimension, RowsFit};
+ghost use Rattle.image.specs.Rows.{RowsFit};
+ghost use Rattle.convolution.specs.Meaning.{Dimension};
 ghost use Rattle.values.specs.Nearest.{scale, nearest, nearest_row, nearest_image, nearest_pixels, nearest_answer, between_answer};
 
 use crate::strides::{row_start, stride_of};
@@ -155,7 +156,7 @@ pub fn resample_nearest<T: Element>(
     source: &ImageStore<'_, T>,
     into: &mut ImageStoreMut<'_, T>,
 ) -> Result<(), PicScaleError>
-    ensures reply { reply result ≡ nearest_answer T.Element.size (numbers_mut into.old) (length (elements_mut into.old)) (numbers source.now) (length (elements source.now)) }
+    ensures reply { reply result ≡ nearest_answer T.Element.BYTES (numbers_mut into.old) (length (elements_mut into.old)) (numbers source.now) (length (elements source.now)) }
     ensures same { numbers_mut into.new ≡ numbers_mut into.old }
     ensures place { into.new.buffer.ghost_name ≡ into.old.buffer.ghost_name }
     ensures after { elements_mut into.new ≡ (if is_ok result then laid (numbers_mut into.old) (nearest_pixels (numbers_mut into.old) (numbers source.now) (elements source.now)) (elements_mut into.old) else elements_mut into.old) }

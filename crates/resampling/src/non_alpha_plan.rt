@@ -1,6 +1,7 @@
 // The stages that apply a kernel: vertical, horizontal, and both axes, the vertical first.
 ghost use Rattle.std.specs.Prelude.{◌≡◌, ◌≤◌, length};
-ghost use Rattle.convolution.specs.Meaning.{Ready, RowsFit, source_row, target_row};
+ghost use Rattle.image.specs.Rows.{RowsFit};
+ghost use Rattle.convolution.specs.Meaning.{Ready, source_row, target_row};
 ghost use Rattle.planner.specs.declared.scaler.Route.TheVariants.{Whole as WholeImage};
 ghost use Rattle.planner.specs.declared.stage.StageKind.TheVariants.{Vertical, Horizontal, Both};
 ghost use Rattle.resampling.specs.Runs.{stage_painted, run_work};
@@ -19,7 +20,7 @@ pub(crate) fn vertical_convolve<T: Element, F: KernelFamily<T>>(
     dst: &mut [T],
     dst_stride: usize,
 )
-    requires ready { Ready T.Element.deep options }
+    requires ready { Ready T.Element.NEEDS_DEPTH options }
     requires width { options.src_size.width ≡ options.dst_size.width }
     requires source { RowsFit (source_row options) src_stride options.src_size.height (length src.now) }
     requires target { RowsFit (target_row options) dst_stride options.dst_size.height (length dst.old) }
@@ -37,7 +38,7 @@ pub(crate) fn horizontal_convolve<T: Element, F: KernelFamily<T>>(
     dst: &mut [T],
     dst_stride: usize,
 )
-    requires ready { Ready T.Element.deep options }
+    requires ready { Ready T.Element.NEEDS_DEPTH options }
     requires height { options.src_size.height ≡ options.dst_size.height }
     requires source { RowsFit (source_row options) src_stride options.src_size.height (length src.now) }
     requires target { RowsFit (target_row options) dst_stride options.dst_size.height (length dst.old) }
@@ -63,7 +64,7 @@ pub(crate) fn whole_convolve<T: Element, F: KernelFamily<T>>(
     dst: &mut [T],
     dst_stride: usize,
 )
-    requires ready { Ready T.Element.deep options }
+    requires ready { Ready T.Element.NEEDS_DEPTH options }
     requires source { RowsFit (source_row options) src_stride options.src_size.height (length src.now) }
     requires work { run_work WholeImage options ≤ length work.old }
     requires target { RowsFit (target_row options) dst_stride options.dst_size.height (length dst.old) }
@@ -85,7 +86,7 @@ pub(crate) fn both_axes_convolve<T: Element, F: KernelFamily<T>>(
     dst: &mut [T],
     dst_stride: usize,
 )
-    requires ready { Ready T.Element.deep options }
+    requires ready { Ready T.Element.NEEDS_DEPTH options }
     requires source { RowsFit (source_row options) src_stride options.src_size.height (length src.now) }
     requires work { run_work route options ≤ length work.old }
     requires target { RowsFit (target_row options) dst_stride options.dst_size.height (length dst.old) }

@@ -58,7 +58,7 @@ fn check_match<T, F>(
 
 // Whether a call needs a depth: where the elements do, unless its plan is of one nearest stage.
 fn needs_depth<T: Element>(function: ResamplingFunction) -> bool
-    ensures { result ≡ (T.Element.deep && not (is_nearest function)) }
+    ensures { result ≡ (T.Element.NEEDS_DEPTH && not (is_nearest function)) }
 {
     T::should_have_bit_depth() && function != ResamplingFunction::Nearest
 }
@@ -71,7 +71,7 @@ fn check_buffers<T: Element, F>(
     first: usize,
     second: usize,
 ) -> Result<(), PicScaleError>
-    ensures { reply result ≡ answer (buffer_checks T.Element.deep (request_of plan.now) depth work first second) }
+    ensures { reply result ≡ answer (buffer_checks T.Element.NEEDS_DEPTH (request_of plan.now) depth work first second) }
 {
     let size = plan.scratch_size();
     if work < size {
@@ -108,7 +108,7 @@ fn resample_store<T: Element, F: KernelFamily<T>>(
     first: &mut [T],
     second: &mut [T],
 ) -> Result<(), PicScaleError>
-    ensures reply { reply result ≡ resample_answer T.Element.size T.Element.deep (asked (call_of (F.KernelFamily.meaning plan.now.family) plan.now entire source.now work.old first.old second.old) (numbers_mut into.old) (length (elements_mut into.old))) (numbers_mut into.old) (length (elements_mut into.old)) }
+    ensures reply { reply result ≡ resample_answer T.Element.BYTES T.Element.NEEDS_DEPTH (asked (call_of (F.KernelFamily.meaning plan.now.family) plan.now entire source.now work.old first.old second.old) (numbers_mut into.old) (length (elements_mut into.old))) (numbers_mut into.old) (length (elements_mut into.old)) }
     ensures same { numbers_mut into.new ≡ numbers_mut into.old }
     ensures place { into.new.buffer.ghost_name ≡ into.old.buffer.ghost_name }
     ensures after { elements_mut into.new ≡ (if is_ok result then laid (numbers_mut into.old) (plan_value (call_of (F.KernelFamily.meaning plan.now.family) plan.now entire source.now work.old first.old second.old) into.old.bit_depth) (elements_mut into.old) else elements_mut into.old) }
@@ -156,9 +156,9 @@ pub fn resample_with_scratch<T: Element, F: KernelFamily<T>>(
     first: &mut [T],
     second: &mut [T],
 ) -> Result<(), PicScaleError>
-    ensures step { Step T.Element.size T.Element.deep (call_of (F.KernelFamily.meaning plan.now.family) plan.now entire source.now work.old first.old second.old) (sheet_of sheet.old) (reply result) (sheet_of sheet.new) }
-    ensures past { (made : Store T) (es : List (Entry T)) → Past T.Element.size T.Element.deep made es (sheet_of sheet.old) → Past T.Element.size T.Element.deep made (record { call = call_of (F.KernelFamily.meaning plan.now.family) plan.now entire source.now work.old first.old second.old; answer = reply result } ∷ es) (sheet_of sheet.new) }
-    ensures upheld { (made : Store T) (es : List (Entry T)) → Past T.Element.size T.Element.deep made es (sheet_of sheet.old) → Upheld T.Element.size T.Element.deep made (record { call = call_of (F.KernelFamily.meaning plan.now.family) plan.now entire source.now work.old first.old second.old; answer = reply result } ∷ es) (sheet_of sheet.new) }
+    ensures step { Step T.Element.BYTES T.Element.NEEDS_DEPTH (call_of (F.KernelFamily.meaning plan.now.family) plan.now entire source.now work.old first.old second.old) (sheet_of sheet.old) (reply result) (sheet_of sheet.new) }
+    ensures past { (made : Store T) (es : List (Entry T)) → Past T.Element.BYTES T.Element.NEEDS_DEPTH made es (sheet_of sheet.old) → Past T.Element.BYTES T.Element.NEEDS_DEPTH made (record { call = call_of (F.KernelFamily.meaning plan.now.family) plan.now entire source.now work.old first.old second.old; answer = reply result } ∷ es) (sheet_of sheet.new) }
+    ensures upheld { (made : Store T) (es : List (Entry T)) → Past T.Element.BYTES T.Element.NEEDS_DEPTH made es (sheet_of sheet.old) → Upheld T.Element.BYTES T.Element.NEEDS_DEPTH made (record { call = call_of (F.KernelFamily.meaning plan.now.family) plan.now entire source.now work.old first.old second.old; answer = reply result } ∷ es) (sheet_of sheet.new) }
     ensures promise { Promise T }
     ensures after { elements_mut sheet.new ≡ (if is_ok result then laid (numbers_mut sheet.old) (plan_value (call_of (F.KernelFamily.meaning plan.now.family) plan.now entire source.now work.old first.old second.old) sheet.old.bit_depth) (elements_mut sheet.old) else elements_mut sheet.old) }
     ensures same { numbers_mut sheet.new ≡ numbers_mut sheet.old }
@@ -182,7 +182,7 @@ fn resample_part<T: Element, F: KernelFamily<T>>(
     first: &mut [T],
     second: &mut [T],
 ) -> Result<(), PicScaleError>
-    ensures reply { reply result ≡ resample_answer T.Element.size T.Element.deep (asked (call_of (F.KernelFamily.meaning plan.now.family) plan.now entire source.now work.old first.old second.old) (record { channels = channels; width = width; height = height; stride = stride; depth = bit_depth }) (length buffer.old)) (record { channels = channels; width = width; height = height; stride = stride; depth = bit_depth }) (length buffer.old) }
+    ensures reply { reply result ≡ resample_answer T.Element.BYTES T.Element.NEEDS_DEPTH (asked (call_of (F.KernelFamily.meaning plan.now.family) plan.now entire source.now work.old first.old second.old) (record { channels = channels; width = width; height = height; stride = stride; depth = bit_depth }) (length buffer.old)) (record { channels = channels; width = width; height = height; stride = stride; depth = bit_depth }) (length buffer.old) }
     ensures after { buffer.new ≡ (if is_ok result then laid (record { channels = channels; width = width; height = height; stride = stride; depth = bit_depth }) (plan_value (call_of (F.KernelFamily.meaning plan.now.family) plan.now entire source.now work.old first.old second.old) bit_depth) buffer.old else buffer.old) }
     ensures kept { is_ok result ≡ false → (work.new ≡ work.old) × (first.new ≡ first.old) × (second.new ≡ second.old) }
 {
@@ -210,9 +210,9 @@ pub fn resample_window<T: Element, F: KernelFamily<T>>(
     first: &mut [T],
     second: &mut [T],
 ) -> Result<(), PicScaleError>
-    ensures step { Step T.Element.size T.Element.deep (call_of (F.KernelFamily.meaning plan.now.family) plan.now (within x y width height) source.now work.old first.old second.old) (sheet_of sheet.old) (reply result) (sheet_of sheet.new) }
-    ensures past { (made : Store T) (es : List (Entry T)) → Past T.Element.size T.Element.deep made es (sheet_of sheet.old) → Past T.Element.size T.Element.deep made (record { call = call_of (F.KernelFamily.meaning plan.now.family) plan.now (within x y width height) source.now work.old first.old second.old; answer = reply result } ∷ es) (sheet_of sheet.new) }
-    ensures upheld { (made : Store T) (es : List (Entry T)) → Past T.Element.size T.Element.deep made es (sheet_of sheet.old) → Upheld T.Element.size T.Element.deep made (record { call = call_of (F.KernelFamily.meaning plan.now.family) plan.now (within x y width height) source.now work.old first.old second.old; answer = reply result } ∷ es) (sheet_of sheet.new) }
+    ensures step { Step T.Element.BYTES T.Element.NEEDS_DEPTH (call_of (F.KernelFamily.meaning plan.now.family) plan.now (within x y width height) source.now work.old first.old second.old) (sheet_of sheet.old) (reply result) (sheet_of sheet.new) }
+    ensures past { (made : Store T) (es : List (Entry T)) → Past T.Element.BYTES T.Element.NEEDS_DEPTH made es (sheet_of sheet.old) → Past T.Element.BYTES T.Element.NEEDS_DEPTH made (record { call = call_of (F.KernelFamily.meaning plan.now.family) plan.now (within x y width height) source.now work.old first.old second.old; answer = reply result } ∷ es) (sheet_of sheet.new) }
+    ensures upheld { (made : Store T) (es : List (Entry T)) → Past T.Element.BYTES T.Element.NEEDS_DEPTH made es (sheet_of sheet.old) → Upheld T.Element.BYTES T.Element.NEEDS_DEPTH made (record { call = call_of (F.KernelFamily.meaning plan.now.family) plan.now (within x y width height) source.now work.old first.old second.old; answer = reply result } ∷ es) (sheet_of sheet.new) }
     ensures promise { Promise T }
     ensures place { sheet.new.buffer.ghost_name ≡ sheet.old.buffer.ghost_name }
     ensures kept { is_ok result ≡ false → (work.new ≡ work.old) × (first.new ≡ first.old) × (second.new ≡ second.old) }

@@ -1,7 +1,8 @@
 // Both axes on route Single: the column values of a few rows at a time, in the work buffer, and their row values.
 ghost use Rattle.std.specs.Prelude.{◌≡◌, ◌+◌, ◌*◌, ◌<◌, ◌≤◌, length};
 ghost use Rattle.image.specs.Rows.{painted};
-ghost use Rattle.convolution.specs.Meaning.{Ready, RowsFit, source_row, target_row, column_value};
+ghost use Rattle.image.specs.Rows.{RowsFit};
+ghost use Rattle.convolution.specs.Meaning.{Ready, source_row, target_row, column_value};
 ghost use Rattle.planner.specs.declared.scaler.Route.TheVariants.{Single as ByBatches};
 ghost use Rattle.planner.specs.declared.stage.StageKind.TheVariants.{Both};
 ghost use Rattle.resampling.specs.Runs.{stage_painted, run_work, both_row};
@@ -19,7 +20,7 @@ fn run_on_4_columns<T: Element, F: KernelFamily<T>>(
     y: usize,
     work: &mut [T],
 )
-    requires ready { Ready T.Element.deep options }
+    requires ready { Ready T.Element.NEEDS_DEPTH options }
     requires source { RowsFit (source_row options) src_stride options.src_size.height (length src.now) }
     requires batch { y + 4 ≤ options.dst_size.height }
     requires work { 4 * source_row options ≤ length work.old }
@@ -43,7 +44,7 @@ fn filter_4_rows<T: Element, F: KernelFamily<T>>(
     dst: &mut [T],
     dst_stride: usize,
 )
-    requires ready { Ready T.Element.deep options }
+    requires ready { Ready T.Element.NEEDS_DEPTH options }
     requires source { RowsFit (source_row options) src_stride options.src_size.height (length src.now) }
     requires batch { y + 4 ≤ options.dst_size.height }
     requires work { 4 * source_row options ≤ length work.old }
@@ -65,7 +66,7 @@ fn filter_row<T: Element, F: KernelFamily<T>>(
     work: &mut [T],
     dst: &mut [T],
 )
-    requires ready { Ready T.Element.deep options }
+    requires ready { Ready T.Element.NEEDS_DEPTH options }
     requires source { RowsFit (source_row options) src_stride options.src_size.height (length src.now) }
     requires row { y < options.dst_size.height }
     requires work { length work.old ≡ source_row options }
@@ -86,7 +87,7 @@ pub(crate) fn trampoline_filter<T: Element, F: KernelFamily<T>>(
     dst: &mut [T],
     dst_stride: usize,
 )
-    requires ready { Ready T.Element.deep options }
+    requires ready { Ready T.Element.NEEDS_DEPTH options }
     requires source { RowsFit (source_row options) src_stride options.src_size.height (length src.now) }
     requires work { run_work ByBatches options ≤ length work.old }
     requires target { RowsFit (target_row options) dst_stride options.dst_size.height (length dst.old) }

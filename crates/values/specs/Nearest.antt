@@ -2,7 +2,8 @@
 use Rattle.std.specs.Prelude.{ℕ, ◌+◌, ◌*◌, ◌/◌, ◌^◌, not, List, [], ◌∷◌, ◌==◌}
 use Rattle.image.specs.Refusals.{Answer, Check, check, answer, and_then}
 use Rattle.image.specs.Rows.{part, row, listed, joined}
-use Rattle.image.specs.Stores.{Numbers, source_answer, target_answer, image}
+use Rattle.image.specs.declared.numbers.Numbers.{Numbers}
+use Rattle.image.specs.Stores.{size_of, source_answer, target_answer, image}
 use Rattle.image.specs.declared.image_size.ImageSize.{ImageSize}
 use Rattle.planner.specs.Plans.{limit_check}
 
@@ -21,10 +22,6 @@ module _ {E : Type 0} where
 
   abbrev pub nearest_image : ℕ → ImageSize → ImageSize → List (List E) → List (List E)
   nearest_image c s t im = listed (λ y. nearest_row c s.width t.width (row im (nearest s.height t.height y))) t.height
-
--- the size of a store
-abbrev pub size_of : Numbers → ImageSize
-size_of n = record { width = n.width; height = n.height }
 
 module _ {E : Type 0} where
   -- what a destination of the numbers d shows of a source of the numbers s

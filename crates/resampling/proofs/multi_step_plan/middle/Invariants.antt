@@ -14,6 +14,6 @@ invariant-loop-stage g l =
     Linked l.size (end_of l.initial.size l.stages) left
     × (end_of l.size left ≡ end_of l.initial.size l.stages)
     × ((area c l.size ≤ length l.first) × (area c l.size ≤ length l.second))
-    × AllRunnable g.T.Element.deep l.settings (length l.work) left
+    × AllRunnable g.T.Element.NEEDS_DEPTH l.settings (length l.work) left
     × (Roomy c (length l.first) left × Roomy c (length l.second) left)
     × (composed m c l.settings.depth left (packed c l.size (cond l.flipped l.second l.first)) ≡ composed m c l.settings.depth l.stages (packed c l.initial.size l.initial.first))

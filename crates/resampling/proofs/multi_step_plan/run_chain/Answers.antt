@@ -1,7 +1,8 @@
 use Rattle.std.proofs.Common.{◌≡◌, ℕ, ◌*◌, ◌≤◌, cond, [], ◌∷◌, length, sym, ap, ◌∙◌, subst, arith, length-take-le, rules}
 use Rattle.image.specs.Rows.{row, rows, painted}
 use Rattle.image.specs.declared.image_size.ImageSize.{ImageSize}
-use Rattle.convolution.specs.Meaning.{RowsFit}
+use Rattle.image.specs.Rows.{RowsFit}
+use Rattle.convolution.specs.Meaning.{}
 use Rattle.planner.specs.Chains.{Linked, Dimensions}
 use Rattle.planner.specs.Plans.{area}
 use Rattle.values.specs.Values.{stage_value, composed}
@@ -54,7 +55,7 @@ middle-flipped-requires g c =
     let w : length c.args.work.now ≡ length c.run_stage.new.work = search rules in
     record {
       linked = subst (λ (t : ImageSize). Linked c.args.head.target t sts) (sym (linked_end c.args.head.target c.args.tail.source sts c.requires.linked)) c.requires.linked;
-      ready = subst (λ (n : ℕ). AllRunnable g.T.Element.deep c.args.settings n sts) w c.requires.ready.1;
+      ready = subst (λ (n : ℕ). AllRunnable g.T.Element.NEEDS_DEPTH c.args.settings n sts) w c.requires.ready.1;
       began = (omega (arith, f, c.requires.first.0), c.requires.second.0);
       room = (subst (λ (n : ℕ). Roomy k n sts) f c.requires.first.1, c.requires.second.1);
     }
@@ -81,7 +82,7 @@ run_stage-requires-2 g c =
     let long : c.elements-len.result ≤ length (cond c.middle-flipped.result.0 c.middle-flipped.new.second c.middle-flipped.new.first) = search rules in
     let all : length c.written.result.now ≡ c.elements-len.result = ap length c.written.ensures ∙ length-take-le _ _ long in
     record {
-      ready = subst (λ (n : ℕ). Runnable g.T.Element.deep c.args.settings n c.args.tail) w c.requires.ready.2;
+      ready = subst (λ (n : ℕ). Runnable g.T.Element.NEEDS_DEPTH c.args.settings n c.args.tail) w c.requires.ready.2;
       source = subst (λ (z : ImageSize). RowsFit (t.width * k) (z.width * k) t.height (length c.written.result.now)) (sym e) (packed_fits k t _ c.requires.ready.2.sized.source.1.0 (omega (arith, len, all)));
       target = c.requires.target;
     }

@@ -21,11 +21,11 @@ run_stage-requires g c =
     let p = c.args.plan.now in
     let sts = c.stages-stages.result.now in
     let o : Settings = record { route = c.scaler.result.route; channels = c.channels.result; depth = c.args.depth } in
-    let all = plan_runnable g.T.Element.deep o p.scaler p.channels p.source_size p.target_size sts _ (ap (λ (z : Scaler). z.route) c.scaler.ensures) c.channels.ensures c.stages-stages.ensures.value c.stages-stages.ensures.chain.sized p.pixels.0 p.pixels.1 c.requires.depth c.requires.work in
+    let all = plan_runnable g.T.Element.NEEDS_DEPTH o p.scaler p.channels p.source_size p.target_size sts _ (ap (λ (z : Scaler). z.route) c.scaler.ensures) c.channels.ensures c.stages-stages.ensures.value c.stages-stages.ensures.chain.sized p.pixels.0 p.pixels.1 c.requires.depth c.requires.work in
     let one = only sts blank (omega arith) in
     let linked = subst (Linked p.source_size p.target_size) one c.stages-stages.ensures.chain.linked in
     record {
-      ready = (subst (AllRunnable g.T.Element.deep o _) one all).0;
+      ready = (subst (AllRunnable g.T.Element.NEEDS_DEPTH o _) one all).0;
       source = same_fit _ _ _ _ _ _ c.channels.ensures linked.0 c.requires.source;
       target = same_fit _ _ _ _ _ _ c.channels.ensures linked.1 c.requires.target;
     }
@@ -46,14 +46,14 @@ run_chain-requires g c =
     let p = c.args.plan.now in
     let sts = c.stages-stages.result.now in
     let o : Settings = record { route = c.scaler.result.route; channels = c.channels.result; depth = c.args.depth } in
-    let all = plan_runnable g.T.Element.deep o p.scaler p.channels p.source_size p.target_size sts _ (ap (λ (z : Scaler). z.route) c.scaler.ensures) c.channels.ensures c.stages-stages.ensures.value c.stages-stages.ensures.chain.sized p.pixels.0 p.pixels.1 c.requires.depth c.requires.work in
+    let all = plan_runnable g.T.Element.NEEDS_DEPTH o p.scaler p.channels p.source_size p.target_size sts _ (ap (λ (z : Scaler). z.route) c.scaler.ensures) c.channels.ensures c.stages-stages.ensures.value c.stages-stages.ensures.chain.sized p.pixels.0 p.pixels.1 c.requires.depth c.requires.work in
     let k = length sts - 1 in
     let h = get_or sts 0 blank in
     let t = get_or sts k blank in
     let mid = take (k - 1) (drop 1 sts) in
     let parts = split sts blank k (omega arith) (omega arith) in
     let linked = subst (Linked p.source_size p.target_size) parts c.stages-stages.ensures.chain.linked in
-    let ready = subst (AllRunnable g.T.Element.deep o _) parts all in
+    let ready = subst (AllRunnable g.T.Element.NEEDS_DEPTH o _) parts all in
     let half : half_of c.channels.result (h ∷ (mid ++ t ∷ [])) ≡ half_of p.channels (plan_stages p) = ap (λ z. half_of c.channels.result z) (sym parts ∙ c.stages-stages.ensures.value) ∙ ap (λ (n : ℕ). half_of n (plan_stages p)) c.channels.ensures in
     record {
       linked = linked_front h.target p.target_size mid t linked.1;

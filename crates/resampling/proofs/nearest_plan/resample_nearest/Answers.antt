@@ -12,8 +12,8 @@ returns g c =
     let s = numbers c.args.source.now in
     let xs = elements_mut c.args.into.now in
     let src = elements c.args.source.now in
-    let a = target_sound g.T.Element.size d (length xs) c.in_ok-validate.ensures in
-    let b = source_sound g.T.Element.size s (length src) c.in_ok-validate-2.ensures in
+    let a = target_sound g.T.Element.BYTES d (length xs) c.in_ok-validate.ensures in
+    let b = source_sound g.T.Element.BYTES s (length src) c.in_ok-validate-2.ensures in
     let m = between d s c.in_ok-check_between.ensures in
     let after = c.nearest_rows.ensures ∙ sampled d s xs src _ _ c.stride_of-dst_stride.ensures c.stride_of-src_stride.ensures in
     record {
@@ -41,8 +41,8 @@ nearest_rows-requires g c =
     let s = numbers c.args.source.now in
     let xs = elements_mut c.args.into.now in
     let src = elements c.args.source.now in
-    let a = target_sound g.T.Element.size d (length xs) c.in_ok-validate.ensures in
-    let b = source_sound g.T.Element.size s (length src) c.in_ok-validate-2.ensures in
+    let a = target_sound g.T.Element.BYTES d (length xs) c.in_ok-validate.ensures in
+    let b = source_sound g.T.Element.BYTES s (length src) c.in_ok-validate-2.ensures in
     let m = between d s c.in_ok-check_between.ensures in
     record {
       channels = (b.some_channels, b.few_channels);

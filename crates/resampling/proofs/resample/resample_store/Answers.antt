@@ -69,7 +69,7 @@ run_plan-requires g c =
     let d = numbers_mut c.args.into.now in
     let s = numbers c.args.source.now in
     let m = matched (request_of p) d s c.in_ok-check_match.ensures in
-    let b = buffers_enough g.T.Element.deep (request_of p) _ _ _ _ c.in_ok-check_buffers.ensures in
+    let b = buffers_enough g.T.Element.NEEDS_DEPTH (request_of p) _ _ _ _ c.in_ok-check_buffers.ensures in
     record {
       depth = b.depth;
       work = b.work;

@@ -15,12 +15,12 @@ returns g c =
     let call = call_of (g.F.KernelFamily.meaning p.family) p whole c.args.source.now c.args.work.now c.args.first.now c.args.second.now in
     let s = sheet_of c.args.sheet.now in
     let t = sheet_of c.resample_store.new.into in
-    let st = answered_step g.T.Element.size g.T.Element.deep call s t (reply r) (g.met.F.KernelFamily.shaped p.family) c.resample_store.ensures.reply c.resample_store.ensures.same
+    let st = answered_step g.T.Element.BYTES g.T.Element.NEEDS_DEPTH call s t (reply r) (g.met.F.KernelFamily.shaped p.family) c.resample_store.ensures.reply c.resample_store.ensures.same
     (where_granted r _ _ _ c.resample_store.ensures.after) (where_refused r _ _ _ c.resample_store.ensures.after) in
     record {
       step = st;
-      past = extends g.T.Element.size g.T.Element.deep call s t (reply r) st;
-      upheld = upholds g.T.Element.size g.T.Element.deep call s t (reply r) st;
+      past = extends g.T.Element.BYTES g.T.Element.NEEDS_DEPTH call s t (reply r) st;
+      upheld = upholds g.T.Element.BYTES g.T.Element.NEEDS_DEPTH call s t (reply r) st;
       promise = promise _;
       after = c.resample_store.ensures.after;
       same = c.resample_store.ensures.same;
