@@ -1,9 +1,10 @@
 // The kernel of such a family: where an output lies in its line, and the output there.
-ghost use Rattle.std.specs.Prelude.{◌≡◌, ℕ, ◌+◌, ◌-◌, ◌*◌, ◌<◌, ◌≤◌, Bool, List, [], ◌∷◌, length};
+ghost use Rattle.std.specs.Prelude.{◌≡◌, ℕ, ◌<◌, Bool, List, [], ◌∷◌, length};
 ghost use Rattle.sampler.specs.declared.sampler.ResamplingFunction.{ResamplingFunction};
-ghost use Rattle.convolution.specs.Meaning.{Dimension};
-ghost use Rattle.lines.specs.Lines.{line};
+ghost use Rattle.lines.specs.Along.{line_of};
 
+use crate::line::Line;
+use convolution::Axis;
 use image::Element;
 use sampler::ResamplingFunction;
 
@@ -27,27 +28,16 @@ pub trait LineKernel<T: Element>: Drop {
     fn offers_4_rows(&self) -> bool
         ensures { result ≡ fours };
 
-    fn place(&self, n: usize, m: usize, x: usize) -> Self::Place
-        requires sizes { Dimension n × Dimension m }
-        requires output { x < m }
-        ensures { placed n m x result };
+    // Where the output `x` lies.
+    fn place(&self, axis: &Axis, x: usize) -> Self::Place
+        requires { x < axis.now.target }
+        ensures { placed axis.now.source axis.now.target x result };
 
-    // The output `x` of the line of `n` elements that begins at `start` and goes on in steps of `step`.
-    fn element(
-        &self,
-        place: Self::Place,
-        src: &[T],
-        start: usize,
-        step: usize,
-        n: usize,
-        m: usize,
-        x: usize,
-    ) -> T
-        requires place { placed n m x place }
-        requires sizes { Dimension n × Dimension m }
-        requires output { x < m }
-        requires source { start + step * (n - 1) < length src.now }
-        ensures { result ∷ [] ≡ value (line src.now start step n) m x };
+    // The output `x` of a line.
+    fn element(&self, place: Self::Place, line: &Line<'_, T>, x: usize) -> T
+        requires place { placed line.now.axis.now.source line.now.axis.now.target x place }
+        requires output { x < line.now.axis.now.target }
+        ensures { result ∷ [] ≡ value (line_of line.now) line.now.axis.now.target x };
 
     ghost one: { (xs : List T) (m x : ℕ) → 0 < length xs → length (value xs m x) ≡ 1 };
 }
