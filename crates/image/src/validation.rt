@@ -55,7 +55,7 @@ pub enum PicScaleError {
 }
 
 impl PicScaleError {
-    // The refusal's number.
+    // The refusal's number: what programs print and callers in C get.
     pub fn code(&self) -> usize
         ensures { result ≡ number_of self.now }
     {
