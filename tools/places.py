@@ -116,9 +116,9 @@ def by_hand(all_functions):
     for f in all_functions:
         if re.match(r'(print|tell)_', f.name):
             yield f.where() + ' prints'
-        elif not f.owner.startswith(('impl', 'pub trait', 'trait')) and re.match(r'(word|digit|decode|name_of|at_place|\w+_of|\w+_from|numbers|made)$', f.name) and '->' in f.signature:
+        elif not f.owner and re.match(r'[^()]*\((\w+: [^,()]+|high: u8, low: u8|[\w: ,]*usize,?) ?,? ?\) -> (?!Result|Option|io::|bool)', f.signature) and re.match(r'(word|digit|decode|\w+_of|\w+_from)$', f.name):
             yield f.where() + ' converts'
-    yield from grep(r'fn at_place|fn place\(&self\) -> u8|^trait Made|^impl Made')
+    yield from grep(r'fn at_place|fn place\(&self\) -> u8|^trait Made|^impl Made|fn decode')
 
 
 def recurring(all_functions):
