@@ -4,6 +4,7 @@ ghost use Rattle.layers.specs.Layers.{limited, limit_of};
 ghost use Rattle.layers.specs.Shapes.{limit_shaped};
 
 use convolution::{ConvolutionOptions, KernelFamily};
+use image::SourceRows;
 use sampler::ResamplingFunction;
 
 // The largest value of a depth.
@@ -24,7 +25,7 @@ fn hold(xs: &mut [u16], depth: usize)
     }
 }
 
-#[derive(Drop)]
+#[derive(Default, Drop)]
 pub struct Limit<F> {
     pub below: F,
 }
@@ -47,12 +48,11 @@ impl<F: KernelFamily<u16>> KernelFamily<u16> for Limit<F> {
     fn run_on_column(
         &self,
         options: ConvolutionOptions,
-        src: &[u16],
-        src_stride: usize,
+        src: &SourceRows<'_, u16>,
         row: usize,
         dst: &mut [u16],
     ) {
-        self.below.run_on_column(options, src, src_stride, row, dst);
+        self.below.run_on_column(options, src, row, dst);
         hold(dst, options.bit_depth);
     }
 

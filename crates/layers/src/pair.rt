@@ -4,10 +4,10 @@ ghost use Rattle.layers.specs.Layers.{pair_of};
 ghost use Rattle.layers.specs.Shapes.{pair_shaped};
 
 use convolution::{ConvolutionOptions, KernelFamily};
-use image::Element;
+use image::{Element, SourceRows};
 use sampler::ResamplingFunction;
 
-#[derive(Drop)]
+#[derive(Default, Drop)]
 pub struct Pair<A, B> {
     pub first: A,
     pub second: B,
@@ -32,16 +32,14 @@ impl<T: Element, A: KernelFamily<T>, B: KernelFamily<T>> KernelFamily<T> for Pai
     fn run_on_column(
         &self,
         options: ConvolutionOptions,
-        src: &[T],
-        src_stride: usize,
+        src: &SourceRows<'_, T>,
         row: usize,
         dst: &mut [T],
     ) {
         if self.first.knows(options.function) {
-            self.first.run_on_column(options, src, src_stride, row, dst);
+            self.first.run_on_column(options, src, row, dst);
         } else {
-            self.second
-                .run_on_column(options, src, src_stride, row, dst);
+            self.second.run_on_column(options, src, row, dst);
         }
     }
 
@@ -56,52 +54,42 @@ impl<T: Element, A: KernelFamily<T>, B: KernelFamily<T>> KernelFamily<T> for Pai
     fn filter_columns(
         &self,
         options: ConvolutionOptions,
-        src: &[T],
-        src_stride: usize,
+        src: &SourceRows<'_, T>,
         dst: &mut [T],
         dst_stride: usize,
     ) {
         if self.first.knows(options.function) {
-            self.first
-                .filter_columns(options, src, src_stride, dst, dst_stride);
+            self.first.filter_columns(options, src, dst, dst_stride);
         } else {
-            self.second
-                .filter_columns(options, src, src_stride, dst, dst_stride);
+            self.second.filter_columns(options, src, dst, dst_stride);
         }
     }
 
     fn filter_rows(
         &self,
         options: ConvolutionOptions,
-        src: &[T],
-        src_stride: usize,
-        height: usize,
+        src: &SourceRows<'_, T>,
         dst: &mut [T],
         dst_stride: usize,
     ) {
         if self.first.knows(options.function) {
-            self.first
-                .filter_rows(options, src, src_stride, height, dst, dst_stride);
+            self.first.filter_rows(options, src, dst, dst_stride);
         } else {
-            self.second
-                .filter_rows(options, src, src_stride, height, dst, dst_stride);
+            self.second.filter_rows(options, src, dst, dst_stride);
         }
     }
 
     fn run_on_4_rows(
         &self,
         options: ConvolutionOptions,
-        src: &[T],
-        src_stride: usize,
+        src: &SourceRows<'_, T>,
         dst: &mut [T],
         dst_stride: usize,
     ) {
         if self.first.knows(options.function) {
-            self.first
-                .run_on_4_rows(options, src, src_stride, dst, dst_stride);
+            self.first.run_on_4_rows(options, src, dst, dst_stride);
         } else {
-            self.second
-                .run_on_4_rows(options, src, src_stride, dst, dst_stride);
+            self.second.run_on_4_rows(options, src, dst, dst_stride);
         }
     }
 }

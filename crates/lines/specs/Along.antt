@@ -1,7 +1,13 @@
--- The elements that a line has.
-use Rattle.std.specs.Prelude.{List}
+-- The elements that a line has, and the outputs of the lines of a pixel.
+use Rattle.std.specs.Prelude.{ℕ, List}
+use Rattle.image.specs.Rows.{joined}
 use Rattle.lines.specs.declared.line.Line.{Line}
 use Rattle.lines.specs.Lines.{line}
 
-abbrev pub line_of : {T : Type 0} → Line T → List T
-line_of l = line l.elements.now l.start l.step l.axis.now.source
+module _ {T : Type 0} where
+  abbrev pub line_of : Line T → List T
+  line_of l = line l.elements.now l.start l.step l.axis.now.source
+
+  -- output x, of m, of each of the c channels of a row of n pixels
+  abbrev pub pixel : (List T → ℕ → ℕ → List T) → List T → ℕ → ℕ → ℕ → ℕ → List T
+  pixel value xs c n m x = joined (λ k. value (line xs k c n) m x) c

@@ -1,16 +1,16 @@
 -- Lines in a buffer, and how many outputs there are.
 use Rattle.std.specs.Prelude.{◌≡◌, ℕ, zero, suc, ◌+◌, ◌-◌, ◌*◌, ◌/◌, ◌<◌, ◌≤◌, Bool, List, length, take, drop}
-use Rattle.std.proofs.Common.{sym, ◌∙◌, suc-mul, mul_comm, add_comm, add-mul, mul-le-mul_right, mul-div_cancel, arith, rules}
+use Rattle.std.proofs.Common.{sym, ◌∙◌, suc-mul, add_comm, mul-le-mul_right, mul-div_cancel, arith, rules}
 use Rattle.std.proofs.Math.Path.{ap}
 use Rattle.std.proofs.Math.Nat.{mul-one}
 use Rattle.std.proofs.lemmas.List.{places}
-use Rattle.image.specs.Rows.{part, rows, row, joined, painted}
+use Rattle.image.specs.Rows.{RowsFit, part, rows, row, joined, painted}
 use Rattle.image.proofs.Strides.{row_fits}
 pub use Rattle.image.proofs.Strides.{pixels_within as packed}
 use Rattle.image.proofs.RowsOf.{length-rows, row-rows, rows_even, painted_same}
 use Rattle.image.proofs.Laid.{part-part}
 use Rattle.sampler.specs.declared.sampler.ResamplingFunction.{ResamplingFunction}
-use Rattle.convolution.specs.Meaning.{Meaning, Shaped, source_row, row_value}
+use Rattle.convolution.specs.Meaning.{Shaped, source_row, row_value}
 use Rattle.convolution.specs.declared.convolution.ConvolutionOptions.{ConvolutionOptions}
 use Rattle.lines.specs.Lines.{line, column_line, line_meaning}
 use Rattle.lines.specs.Joins.{joined_none, joined_same, length-joined_below}
@@ -22,9 +22,10 @@ pixel_count c n len some long = ap (λ (k : ℕ). k / c) long ∙ mul-div_cancel
 pub pixel_fits : (x m c : ℕ) → x < m → x * c + c ≤ m * c
 pixel_fits x m c below = omega (arith, suc-mul x c, mul-le-mul_right c below)
 
--- the last of four rows from row y on lies within the buffer
-pub last_of_four : (y h s n len : ℕ) → y + 4 ≤ h → s * (h - 1) + n ≤ len → y * s + (s * 3 + n) ≤ len
-last_of_four y h s n len below fits = omega (arith, row_fits (y + 3) h s n len (omega arith) fits, add-mul y 3 s, mul_comm 3 s)
+-- and pixel x of each of h rows of m pixels
+pub pixel_of_row_fits : (x m c i h s len : ℕ) → x < m → i < h → RowsFit (m * c) s h len → x * c + i * s + c ≤ len
+pixel_of_row_fits x m c i h s len below row fits =
+    let within = row_fits i h s (m * c) len row fits.within in omega (arith, pixel_fits x m c below)
 
 module _ {X : Type 0} where
   -- a part as a range has it
@@ -84,14 +85,14 @@ module _ {X : Type 0} where
     across_outputs xs c n w some long = ap (λ (p : ℕ). joined (λ x. joined (λ k. value (line xs k c p) w x) c) w) (sym (pixel_count c n (length xs) some long))
 
     -- the outputs of four rows of pixels of c elements are their row values
-    pub across_four : (knows : ResamplingFunction → Bool) (o : ConvolutionOptions) (xs dst : List X) (s t c : ℕ) → o.channels ≡ c → 0 < o.channels → s * (4 - 1) + source_row o ≤ length xs
-        → painted dst t (λ i. joined (λ x. joined (λ k. value (line (part (i * s) (o.src_size.width * c) xs) k c o.src_size.width) o.dst_size.width x) c) o.dst_size.width) 4
-        ≡ painted dst t (row_value (line_meaning knows value) o xs s) 4
-    across_four knows o xs dst s t c is some fits =
+    pub across_four : (knows : ResamplingFunction → Bool) (o : ConvolutionOptions) (im : List (List X)) (dst : List X) (t c : ℕ) → o.channels ≡ c → 0 < o.channels → ((i : ℕ) → i < 4 → length (row im i) ≡ source_row o)
+        → painted dst t (λ i. joined (λ x. joined (λ k. value (line (row im i) k c o.src_size.width) o.dst_size.width x) c) o.dst_size.width) 4
+        ≡ painted dst t (row_value (line_meaning knows value) o im) 4
+    across_four knows o im dst t c is some even =
         let n = o.src_size.width in
         let m = o.dst_size.width in
-        ap (λ (c : ℕ). painted dst t (λ i. joined (λ x. joined (λ k. value (line (part (i * s) (n * c) xs) k c n) m x) c) m) 4) (sym is)
-        ∙ painted_same dst t _ _ 4 (λ i l. across_outputs (part (i * s) (source_row o) xs) o.channels n m some (length-row xs i 4 s (source_row o) l fits))
+        ap (λ (c : ℕ). painted dst t (λ i. joined (λ x. joined (λ k. value (line (row im i) k c n) m x) c) m) 4) (sym is)
+        ∙ painted_same dst t _ _ 4 (λ i l. across_outputs (row im i) o.channels n m some (even i l))
 
     -- the outputs of the channels of a row's pixels
     pub length-pixel : (xs : List X) (c n m x : ℕ) → 0 < n → length xs ≡ n * c → length (joined (λ k. value (line xs k c n) m x) c) ≡ c
@@ -105,10 +106,3 @@ module _ {X : Type 0} where
       column_length = λ f c n im h y d some even. length-columns n im h y some even;
       across_length = λ f c n xs w d some long. length_across c n xs w some long;
     }
-
-module _ {X : Type 0} (m : Meaning X) (o : ConvolutionOptions) where
-  -- row i of the rows from row y on
-  pub row_value_part : (xs : List X) (s y i a k : ℕ) → a ≡ y * s → i * s + source_row o ≤ k → row_value m o (part a k xs) s i ≡ row_value m o xs s (y + i)
-  row_value_part xs s y i a k at fits =
-      ap (λ (zs : List X). m.across o.function o.channels zs o.dst_size.width o.bit_depth)
-      (part-part (i * s) (source_row o) a k xs fits ∙ ap (λ (p : ℕ). part p (source_row o) xs) (omega (arith, add-mul y i s)))

@@ -1,10 +1,9 @@
 -- One stage of enlarging: how far it goes, and that stages follow until both axes have the target. Assumes nothing.
-use Rattle.std.proofs.Common.{◌≡◌, ℕ, zero, suc, ◌+◌, ◌-◌, ◌*◌, ◌/◌, ◌<◌, ◌≤◌, min, true, false, eqb, ◌⊎◌, List, [], ◌∷◌, ◌++◌, sym, refl, ap, ◌∙◌, inl, inr, append_assoc, mul-le-mul_left, arith}
+use Rattle.std.proofs.Common.{◌≡◌, ℕ, zero, suc, ◌+◌, ◌-◌, ◌*◌, ◌/◌, ◌<◌, ◌≤◌, min, true, false, eqb, ◌⊎◌, [], ◌∷◌, refl, ap, ◌∙◌, inl, inr, mul-le-mul_left, arith}
 use Rattle.std.proofs.lemmas.Bool.{cases_Bool, and_parts, and_cases, eqb-true, eqb-false}
 use Rattle.image.specs.declared.image_size.ImageSize.{ImageSize}
 use Rattle.sampler.specs.Functions.{twice_ratio}
 use Rattle.sampler.specs.declared.sampler.ResamplingFunction.{ResamplingFunction}
-use Rattle.planner.specs.declared.stage.Stage.{Stage}
 use Rattle.planner.specs.Stages.{grown, grown_size, same_size, growing, enough, stage_of}
 use Rattle.planner.proofs.Ratio.{three}
 
@@ -94,18 +93,3 @@ module _ (f : ResamplingFunction) (s t : ImageSize) (b : Below s t) where
   pub arrives : same_size (after f s t) t ≡ true → growing (enough t) f s t ≡ stage_of f s (after f s t) ∷ []
   unfolding growing
   arrives e = unrolled ∙ (rw e refl)
-
--- One turn of the loop that lists the stages: n is the size that it comes to, xs the stages before, ys those after.
-module _ (f : ResamplingFunction) (s t n : ImageSize) (r : ℕ) (b : Below s t) (by : n ≡ grown_size r t s) (ratio : r ≡ twice_ratio f) where
-  at : n ≡ after f s t
-  at = by ∙ ap (λ (q : ℕ). grown_size q t s) ratio
-
-  pub turn_near : false ≡ same_size n t → left n t < left s t
-  turn_near e = rw at (nearer f s t b (sym (rw at at e)))
-
-  module _ (xs ys whole : List Stage) (st : Stage) (is : st ≡ stage_of f s n) (more : ys ≡ xs ++ st ∷ []) (inv : xs ++ growing (enough t) f s t ≡ whole) where
-    pub turn_on : false ≡ same_size n t → Below n t × (ys ++ growing (enough t) f n t ≡ whole)
-    turn_on e = (rw at (below_after f s t b), rw (more, is, at, append_assoc, ← goes_on f s t b (sym (rw at at e))) inv)
-
-    pub turn_out : true ≡ same_size n t → ys ≡ whole
-    turn_out e = rw (more, is, at, ← arrives f s t b (sym (rw at at e))) inv

@@ -1,9 +1,5 @@
 pub mod Ratio
 pub mod Growth
 pub mod Sized
-pub mod Links
 pub mod Largest
-pub mod Held
-pub mod Ways
-pub mod Unknown
 pub mod Answered

@@ -73,13 +73,10 @@ ratio Area = refl
 pub by_record : (f : ResamplingFunction) (r : ResamplingFilter) → r ≡ filter_of f → by_float r.min_kernel_size ≡ twice_ratio f
 by_record f r e = ap (λ (x : ResamplingFilter). by_float x.min_kernel_size) e ∙ ratio f
 
--- every ratio is from 3/2 to 4
+-- every ratio is at least 3/2
 pub three : (f : ResamplingFunction) → 3 ≤ twice_ratio f
 three f =
     elim (cases_Bool (ltb (size_of f) 2)) [
       | inl e ↦ rw e (omega arith)
       | inr e ↦ rw e (omega (arith, ltb-false (size_of f) 2 e))
     ]
-
-pub eight : (f : ResamplingFunction) → twice_ratio f ≤ 8
-eight f = elim (cases_Bool (ltb (size_of f) 2)) [ inl e ↦ rw e (omega arith) | inr e ↦ rw e (omega arith) ]

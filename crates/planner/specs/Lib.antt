@@ -3,3 +3,5 @@ pub mod Chains
 pub mod Plans
 pub mod Plan
 pub mod Strategies
+pub mod Left
+pub mod Lines

@@ -1,4 +1,5 @@
 -- What a plan holds, and when planning is refused.
+use Rattle.std.specs.List.{list_any}
 use Rattle.std.specs.Prelude.{ℕ, ◌*◌, max, Bool, true, false, cond, not, ◌&&◌, ◌||◌, List, [], ◌∷◌, ◌++◌, ◌==◌, nat_lt}
 use Rattle.image.specs.declared.image_size.ImageSize.{ImageSize}
 use Rattle.image.specs.Refusals.{Answer, Check, check, answer}
@@ -26,8 +27,7 @@ asks_unknown knows st = needs_kernel st.kind && not (knows st.function)
 
 -- some stage does
 abbrev pub some_unknown : (ResamplingFunction → Bool) → List Stage → Bool
-some_unknown knows [] = false
-some_unknown knows (st ∷ sts) = asks_unknown knows st || some_unknown knows sts
+some_unknown knows = list_any (asks_unknown knows)
 
 abbrev pub limit_check : ℕ → Check
 limit_check v = check (nat_lt dimension_limit v) 14 (v ∷ [])

@@ -8,6 +8,7 @@ ghost use Rattle.planner.specs.Plan.{Planned, plan_stages, plan_work, plan_half}
 use crate::plan::ResamplingPlan;
 use crate::scaler::{Route, Scaler};
 use crate::stage::Stage;
+use crate::task::Task;
 use image::ImageSize;
 use std::marker::PhantomData;
 
@@ -17,11 +18,11 @@ fn largest_scratch(steps: &[Stage], route: Route, channels: usize) -> usize
     requires channels { channels ≤ 4 }
     ensures { result ≡ work_of route channels steps.now }
 {
-    let mut most = 0;
-    for step in steps {
-        most = most.max(step.scratch_size(route, channels));
-    }
-    most
+    steps
+        .iter()
+        .map(|step| step.scratch_size(route, channels))
+        .max()
+        .unwrap_or(0)
 }
 
 // The largest target but the last stage's, in elements.
@@ -30,41 +31,36 @@ fn largest_between(steps: &[Stage], channels: usize) -> usize
     requires channels { channels ≤ 4 }
     ensures { result ≡ half_of channels steps.now }
 {
-    if steps.len() == 0 {
-        return 0;
+    match steps.split_last() {
+        Some((_, before)) => before
+            .iter()
+            .map(|step| step.target.elements(channels))
+            .max()
+            .unwrap_or(0),
+        None => 0,
     }
-    let last = steps.len() - 1;
-    let mut most = 0;
-    for i in 0..last {
-        most = most.max(steps[i].target_elements(channels));
-    }
-    most
 }
 
 impl<T, F> ResamplingPlan<T, F> {
     // A plan over the table of its stages.
-    pub(crate) fn new(
-        family: F,
-        scaler: Scaler,
-        channels: usize,
-        source_size: ImageSize,
-        target_size: ImageSize,
-        steps: Vec<Stage>,
-    ) -> ResamplingPlan<T, F>
-        requires table { steps.items ≡ stages_of scaler source_size target_size }
-        requires source { Dimensions source_size }
-        requires target { Dimensions target_size }
-        requires channels { (0 < channels) × (channels ≤ 4) }
-        ensures { Planned family scaler channels source_size target_size result }
+    pub(crate) fn new(family: F, task: Task, steps: Vec<Stage>) -> ResamplingPlan<T, F>
+        requires { steps.items ≡ stages_of task.scaler task.source task.target }
+        ensures { Planned family task.scaler task.channels task.source task.target result }
     {
+        let Task {
+            scaler,
+            channels,
+            source,
+            target,
+        } = task;
         let kernel_scratch_size = largest_scratch(&steps, scaler.route, channels);
         let ping_pong_size = largest_between(&steps, channels);
         ResamplingPlan {
             family,
             scaler,
             channels,
-            source_size,
-            target_size,
+            source_size: source,
+            target_size: target,
             steps,
             kernel_scratch_size,
             ping_pong_size,

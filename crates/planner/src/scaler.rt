@@ -7,13 +7,13 @@ ghost use Rattle.planner.specs.declared.scaler.Route.TheVariants.{Single as ByBa
 use sampler::ResamplingFunction;
 
 // How a stage on both axes runs: in batches of rows, or over the whole vertical image.
-#[derive(Clone, Copy)]
+#[derive(Clone, Copy, Debug, PartialEq, Eq)]
 pub enum Route {
     Single,
     Whole,
 }
 
-#[derive(Clone, Copy)]
+#[derive(Clone, Copy, Debug)]
 pub struct Scaler {
     pub function: ResamplingFunction,
     pub multi_step_upscaling: bool,

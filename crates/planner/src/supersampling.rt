@@ -14,9 +14,10 @@ pub(crate) fn supersampling_prefilter(
     requires { Dimensions target }
     ensures { result ≡ prefilter source target }
 {
-    if source.width >= 4 * target.width || source.height >= 4 * target.height {
+    let shrinks_by = |k| source.width >= k * target.width || source.height >= k * target.height;
+    if shrinks_by(4) {
         Some(ResamplingFunction::Nearest)
-    } else if source.width >= 3 * target.width || source.height >= 3 * target.height {
+    } else if shrinks_by(3) {
         Some(ResamplingFunction::Box)
     } else {
         None
@@ -28,7 +29,8 @@ pub(crate) fn supersampling_intermediate_size(source: ImageSize, target: ImageSi
     requires { Dimensions target }
     ensures { result ≡ between source target }
 {
-    let width = source.width.min(2 * target.width);
-    let height = source.height.min(2 * target.height);
-    ImageSize { width, height }
+    ImageSize::new(
+        source.width.min(2 * target.width),
+        source.height.min(2 * target.height),
+    )
 }

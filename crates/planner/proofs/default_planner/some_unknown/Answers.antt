@@ -1,10 +1,12 @@
-use Rattle.planner.proofs.Sized.{below}
-use Rattle.planner.proofs.Unknown.{first_asked}
+use Rattle.std.proofs.Common.{rules}
+use borrow.Author.Tests.{tests}
+use Rattle.std.proofs.lemmas.Iterator.Consumers.{YieldsList-from_first}
+use Rattle.std.proofs.lemmas.Iterator.Search.{any_from_yields_List}
+use Rattle.planner.specs.Plans.{asks_unknown}
+use Rattle.planner.specs.Left.{left}
 use Rattle.planner.proofs.default_planner.some_unknown.Goals as goal
 
-pub returns-in-MultiStep : goal.returns-in-MultiStep
-returns-in-MultiStep g c =
-    let way = c.in-MultiStep.ensures in
-    first_asked (g.F.KernelFamily.meaning c.args.family.now).knows c.args.scaler.function c.args.source c.args.target _ _ _ _ _
-    (below c.args.source c.args.target c.requires.source way.suits) c.next_intermediate_size-next_size.ensures c.twice_max_ratio-ratio.ensures
-    c.new-in-MultiStep.ensures way.stages c.asks_unknown-in-MultiStep.ensures
+pub returns : goal.returns
+returns g c =
+    any_from_yields_List (asks_unknown (g.F.KernelFamily.meaning c.args.family.now).knows) c.any.new.self _ _ c.any.ensures.ran
+    (YieldsList-from_first (λ x. x) left {s = c.stages.result} _ c.stages.ensures) (λ x b q k. search (rules, tests))

@@ -1,15 +1,13 @@
-use Rattle.std.proofs.Common.{suc, ◌<◌, length, arith, rules}
-use Rattle.planner.proofs.Largest.{half_none, half_on, half_out}
+use Rattle.std.proofs.Common.{rules, sym, ap, ◌∙◌}
+use Rattle.std.proofs.lemmas.Iterator.{YieldsList-from_slice, YieldsList-from_map}
+use Rattle.std.proofs.lemmas.Iterator.Consumers.{max_from_yields_List}
+use Rattle.planner.specs.Plans.{half_of}
+use Rattle.planner.proofs.Largest.{top_is, counted, half_top}
 use Rattle.planner.proofs.multi_step_plan.largest_between.Goals as goal
 
-pub returns-then-steps-eq0 : goal.returns-then-steps-eq0
-returns-then-steps-eq0 c = half_none _ _ c.if-steps-eq0.true
-
-pub loop-i-preserved : goal.loop-i-preserved
-loop-i-preserved c =
-    let h : suc c.loop-i.i < length c.args.steps.now = omega arith in
-    half_on c.args.channels c.args.steps.now c.loop-i.i _ c.target_elements.result c.loop-i.most c.max-most.result _
-    h c.target_elements.ensures (search rules) c.loop-i.invariant
-
-pub returns : goal.returns
-returns c = half_out c.args.channels c.args.steps.now c.loop-i.i _ _ (omega arith) c.loop-i.invariant
+pub returns-in-Some : goal.returns-in-Some
+returns-in-Some c =
+    let most = max_from_yields_List c.map.result _ c.max.ensures.ran
+    (YieldsList-from_map _ (counted c.args.channels) (YieldsList-from_slice c.in-Some.before.now (cc)) c.map.ensures.closure (λ x r q k. search rules)) in
+    let e = c.in-Some.ensures.cases.0 in
+    top_is _ _ _ most c.unwrap_or.ensures ∙ half_top _ _ _ c.requires.channels (rw e at c.requires.sized) ∙ ap (half_of c.args.channels) (sym e)

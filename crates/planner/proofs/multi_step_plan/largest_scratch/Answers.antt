@@ -1,11 +1,13 @@
-use Rattle.std.proofs.Common.{rules}
-use Rattle.planner.proofs.Largest.{work_on, work_out}
+use Rattle.std.proofs.Common.{rules, ◌∙◌}
+use Rattle.std.proofs.lemmas.Iterator.{YieldsList-from_slice, YieldsList-from_map}
+use Rattle.std.proofs.lemmas.Iterator.Consumers.{max_from_yields_List}
+use Rattle.planner.specs.declared.stage.Stage.{Stage}
+use Rattle.planner.specs.Plans.{work_by}
+use Rattle.planner.proofs.Largest.{top_is, work_top}
 use Rattle.planner.proofs.multi_step_plan.largest_scratch.Goals as goal
 
-pub loop-step-preserved : goal.loop-step-preserved
-loop-step-preserved c =
-    work_on c.args.route c.args.channels c.args.steps.now c.loop-step.step-index _ c.scratch_size.result c.loop-step.most c.max-most.result _
-    c.loop-step-test.true c.scratch_size.ensures (search rules) c.loop-step.invariant
-
 pub returns : goal.returns
-returns c = work_out c.args.route c.args.channels c.args.steps.now c.loop-step.step-index _ _ (search rules) c.loop-step.invariant
+returns c =
+    let most = max_from_yields_List c.map.result _ c.max.ensures.ran
+    (YieldsList-from_map _ (λ (st : Stage). work_by st.kind c.args.route c.args.channels st) (YieldsList-from_slice c.args.steps.now (cc)) c.map.ensures.closure (λ x r q k. search rules)) in
+    top_is _ _ _ most c.unwrap_or.ensures ∙ work_top _ _ _

@@ -3,18 +3,15 @@ use Rattle.planner.specs.Plans.{work_of, half_of}
 use Rattle.planner.proofs.Sized.{chain, chain_at}
 use Rattle.planner.proofs.plan.ResamplingPlan.new.Goals as goal
 
-pub largest_scratch-kernel_scratch_size-requires :
-    goal.largest_scratch-kernel_scratch_size-requires
-largest_scratch-kernel_scratch_size-requires g c = record {
-  sized = (chain_at _ _ _ _ (c.deref.ensures.value ∙ c.requires.table) c.requires.source c.requires.target).sized;
-  channels = c.requires.channels.1;
-}
+pub largest_scratch-kernel_scratch_size-requires-clause-sized :
+    goal.largest_scratch-kernel_scratch_size-requires-clause-sized
+largest_scratch-kernel_scratch_size-requires-clause-sized g c =
+    (chain_at _ _ _ _ (c.deref.ensures.value ∙ c.requires) c.args.task.sizes.0 c.args.task.sizes.1).sized
 
-pub largest_between-ping_pong_size-requires : goal.largest_between-ping_pong_size-requires
-largest_between-ping_pong_size-requires g c = record {
-  sized = (chain_at _ _ _ _ (c.deref-2.ensures.value ∙ c.requires.table) c.requires.source c.requires.target).sized;
-  channels = c.requires.channels.1;
-}
+pub largest_between-ping_pong_size-requires-clause-sized :
+    goal.largest_between-ping_pong_size-requires-clause-sized
+largest_between-ping_pong_size-requires-clause-sized g c =
+    (chain_at _ _ _ _ (c.deref-2.ensures.value ∙ c.requires) c.args.task.sizes.0 c.args.task.sizes.1).sized
 
 pub returns : goal.returns
 returns g c = record {
@@ -23,8 +20,8 @@ returns g c = record {
   channels = refl;
   source = refl;
   target = refl;
-  table = c.requires.table;
-  work = c.largest_scratch-kernel_scratch_size.ensures ∙ ap (work_of c.args.scaler.route c.args.channels) (c.deref.ensures.value ∙ c.requires.table);
-  half = c.largest_between-ping_pong_size.ensures ∙ ap (half_of c.args.channels) (c.deref-2.ensures.value ∙ c.requires.table);
-  chain = chain c.args.scaler c.args.source_size c.args.target_size c.requires.source c.requires.target;
+  table = c.requires;
+  work = c.largest_scratch-kernel_scratch_size.ensures ∙ ap (work_of c.args.task.scaler.route c.args.task.channels) (c.deref.ensures.value ∙ c.requires);
+  half = c.largest_between-ping_pong_size.ensures ∙ ap (half_of c.args.task.channels) (c.deref-2.ensures.value ∙ c.requires);
+  chain = chain c.args.task.scaler c.args.task.source c.args.task.target c.args.task.sizes.0 c.args.task.sizes.1;
 }
