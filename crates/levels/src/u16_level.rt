@@ -4,9 +4,11 @@ ghost use Rattle.std.proofs.Common.{rules};
 use crate::level::Level;
 
 impl Level for u16 {
-    ghost level = { λ x. x };
+    const MOST: u64 = 65535;
 
-    ghost most = { 65535 };
+    ghost MOST = { 65535 };
+
+    ghost level = { λ x. x };
 
     ghost of = { λ n. n };
 
@@ -14,11 +16,9 @@ impl Level for u16 {
 
     ghost exact = { Prim.search rules };
 
-    fn wide(self) -> u64 {
-        self as u64
-    }
+    ghost narrows = { Prim.search rules };
 
-    fn narrow(v: u64) -> u16 {
-        (v % 65536) as u16
+    fn wide(self) -> u64 {
+        u64::from(self)
     }
 }

@@ -4,9 +4,11 @@ ghost use Rattle.std.proofs.Common.{rules};
 use crate::level::Level;
 
 impl Level for u8 {
-    ghost level = { λ x. x };
+    const MOST: u64 = 255;
 
-    ghost most = { 255 };
+    ghost MOST = { 255 };
+
+    ghost level = { λ x. x };
 
     ghost of = { λ n. n };
 
@@ -14,11 +16,9 @@ impl Level for u8 {
 
     ghost exact = { Prim.search rules };
 
-    fn wide(self) -> u64 {
-        self as u64
-    }
+    ghost narrows = { Prim.search rules };
 
-    fn narrow(v: u64) -> u8 {
-        (v % 256) as u8
+    fn wide(self) -> u64 {
+        u64::from(self)
     }
 }

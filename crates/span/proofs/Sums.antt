@@ -1,8 +1,9 @@
 -- The bounds of a span, its sum and its mean.
-use Rattle.std.proofs.Common.{◌≡◌, ℕ, suc, ◌+◌, ◌-◌, ◌*◌, ◌/◌, ◌%◌, ◌<◌, ◌≤◌, List, [], ◌∷◌, length, get_or, drop, sum_by, sym, ap, ◌∙◌, mul-le-mul_right, mod-eq_of_lt, mul_assoc, suc-mul, mul_comm, mul-suc, div-mul-le_self, add-one, arith, rules}
+use Rattle.std.proofs.Common.{◌≡◌, ℕ, suc, ◌+◌, ◌-◌, ◌*◌, ◌/◌, ◌%◌, ◌<◌, ◌≤◌, min, List, [], ◌∷◌, length, get_or, drop, sum_by, sym, ap, ◌∙◌, mul-le-mul_right, mod-eq_of_lt, mul_assoc, suc-mul, mul_comm, mul-suc, div-mul-le_self, add-one, arith, rules}
 use Rattle.std.proofs.lemmas.Nat.{div_below, le-div}
 use Rattle.std.proofs.lemmas.List.{places, get_or-drop}
 use Rattle.std.proofs.lemmas.List.Sums.{sum_by_more}
+use Rattle.std.proofs.lemmas.Grind.{div_ceil_times}
 use Rattle.image.specs.Rows.{part}
 use Rattle.span.specs.Span.{span_low, span_high, span_bounds, rounded_mean, span_mean, span_value}
 
@@ -27,6 +28,13 @@ pub mean_le : (sum k most : ℕ) → 0 < k → sum ≤ most * k → rounded_mean
 mean_le sum k most h p =
     let d : suc most * (2 * k) ≡ 2 * (most * k) + 2 * k = suc-mul most (2 * k) ∙ ap (λ z. z + 2 * k) (twice most k) in
     omega (arith, div_below (2 * sum + k) (2 * k) (suc most) (omega arith) (omega (arith, d)))
+
+-- a quotient, rounded up
+pub rounded_up : (a m : ℕ) → 0 < m → a / m + min 1 (a % m) ≡ (a + m - 1) / m
+rounded_up a m some =
+    let k = a / m + min 1 (a % m) in
+    let near = div_ceil_times a m some in
+    omega (arith, le-div k (a + m - 1) m some (omega (arith, near)), div_below (a + m - 1) m (suc k) some (omega (arith, near, suc-mul k m)))
 
 -- an output covers at least one element, and none past the end
 pub some : (n m x : ℕ) → 0 < m → 1 ≤ n → span_low n m x < span_high n m x

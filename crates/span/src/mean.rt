@@ -1,13 +1,14 @@
 // The line kernel of Span.
-ghost use Rattle.std.specs.Prelude.{◌≡◌, ℕ, ◌+◌, ◌-◌, ◌*◌, ◌^◌, ◌<◌, ◌≤◌, false, length, sum_by};
+ghost use Rattle.std.specs.Prelude.{◌≡◌, ℕ, ◌-◌, ◌*◌, ◌^◌, ◌<◌, ◌≤◌, false, sum_by};
 ghost use Rattle.image.specs.Rows.{part};
 ghost use Rattle.convolution.specs.Meaning.{Dimension};
-ghost use Rattle.lines.specs.Lines.{line};
+ghost use Rattle.lines.specs.Along.{line_of};
 ghost use Rattle.span.specs.Span.{span_knows, span_bounds, rounded_mean, span_mean, span_value};
 ghost use Rattle.std.proofs.Common.{rules};
 
+use convolution::Axis;
 use levels::Level;
-use lines::LineKernel;
+use lines::{Line, LineKernel};
 use sampler::ResamplingFunction;
 
 // The first element that the output `x` covers, and the first past it that it does not. No output covers anything
@@ -15,32 +16,25 @@ use sampler::ResamplingFunction;
 pub fn span_bounds(n: u16, m: u16, x: u16) -> (usize, usize)
     ensures { result ≡ span_bounds n m x }
 {
-    let n = n as usize;
-    let m = m as usize;
-    let x = x as usize;
+    let n = usize::from(n);
+    let m = usize::from(m);
+    let x = usize::from(x);
     if m == 0 {
         return (0, 0);
     }
-    (x * n / m, ((x + 1) * n + m - 1) / m)
+    (x * n / m, ((x + 1) * n).div_ceil(m))
 }
 
-// The sum of the levels from element `low` up to `high` of a line of `n`.
-fn sum_between<T: Level>(
-    src: &[T],
-    start: usize,
-    step: usize,
-    n: usize,
-    low: usize,
-    high: usize,
-) -> u64
-    requires source { start + step * (n - 1) < length src.now }
-    requires bounds { (low < high) × (high ≤ n) × Dimension n }
-    ensures value { result ≡ sum_by T.Level.level (part low (high - low) (line src.now start step n)) }
-    ensures bound { result ≤ T.Level.most * (high - low) }
+// The sum of the levels from element `low` up to `high` of a line. A `map` with a `sum` here was tried: that the sum fits
+// was not proved.
+fn sum_between<T: Level>(line: &Line<'_, T>, low: usize, high: usize) -> u64
+    requires { (low < high) × (high ≤ line.now.axis.now.source) }
+    ensures value { result ≡ sum_by T.Level.level (part low (high - low) (line_of line.now)) }
+    ensures bound { result ≤ T.Level.MOST * (high - low) }
 {
-    let mut sum: u64 = 0;
+    let mut sum = 0;
     for i in low..high {
-        sum += src[start + i * step].wide();
+        sum += line.elements[line.start + i * line.step].wide();
     }
     sum
 }
@@ -53,24 +47,16 @@ fn rounded_mean(sum: u64, count: u64) -> u64
 }
 
 // The mean of the levels from element `low` up to `high`.
-fn mean_between<T: Level>(
-    src: &[T],
-    start: usize,
-    step: usize,
-    n: usize,
-    low: usize,
-    high: usize,
-) -> T
-    requires source { start + step * (n - 1) < length src.now }
-    requires bounds { (low < high) × (high ≤ n) × Dimension n }
-    ensures { result ≡ T.Level.of (span_mean T.Level.level (part low (high - low) (line src.now start step n))) }
+fn mean_between<T: Level>(line: &Line<'_, T>, low: usize, high: usize) -> T
+    requires { (low < high) × (high ≤ line.now.axis.now.source) }
+    ensures { result ≡ T.Level.of (span_mean T.Level.level (part low (high - low) (line_of line.now))) }
 {
-    let sum = sum_between(src, start, step, n, low, high);
+    let sum = sum_between(line, low, high);
     T::narrow(rounded_mean(sum, (high - low) as u64))
 }
 
-#[derive(Drop)]
-pub struct Mean {}
+#[derive(Default, Drop)]
+pub struct Mean;
 
 impl<T: Level> LineKernel<T> for Mean {
     // The bounds of the span.
@@ -87,31 +73,19 @@ impl<T: Level> LineKernel<T> for Mean {
     ghost one = { Prim.search rules };
 
     fn knows_function(&self, function: ResamplingFunction) -> bool {
-        match function {
-            ResamplingFunction::Box | ResamplingFunction::Area => true,
-            _ => false,
-        }
+        matches!(function, ResamplingFunction::Box | ResamplingFunction::Area)
     }
 
     fn offers_4_rows(&self) -> bool {
         false
     }
 
-    fn place(&self, n: usize, m: usize, x: usize) -> (usize, usize) {
-        span_bounds(n as u16, m as u16, x as u16)
+    fn place(&self, axis: &Axis, x: usize) -> (usize, usize) {
+        span_bounds(axis.source as u16, axis.target as u16, x as u16)
     }
 
-    fn element(
-        &self,
-        place: (usize, usize),
-        src: &[T],
-        start: usize,
-        step: usize,
-        n: usize,
-        m: usize,
-        x: usize,
-    ) -> T {
+    fn element(&self, place: (usize, usize), line: &Line<'_, T>, x: usize) -> T {
         let (low, high) = place;
-        mean_between(src, start, step, n, low, high)
+        mean_between(line, low, high)
     }
 }

@@ -1,14 +1,17 @@
 // Tent: an output lies between two elements and is weighed by its distance to each.
 #![tactic(auto)]
 
-pub mod float_linear;
+pub mod blend;
 pub mod linear;
 pub mod place;
 
-pub use float_linear::FloatLinear;
+pub use blend::Blend;
 pub use linear::Linear;
 use lines::Lines;
 pub use place::tent_place;
+
+// The kernel where it works on 32-bit floats.
+pub type FloatLinear = Linear;
 
 // The families: on whole numbers, and on 32-bit floats.
 pub type Tent = Lines<Linear>;

@@ -1,33 +1,18 @@
-// The line kernel of Tent on whole numbers.
-ghost use Rattle.std.specs.Prelude.{◌≡◌, ◌*◌, ◌^◌, ◌<◌, true};
-ghost use Rattle.convolution.specs.Meaning.{Dimension};
-ghost use Rattle.tent.specs.Tent.{tent_knows, tent_place, tent_blend, tent_value};
+// The line kernel of Tent.
+ghost use Rattle.std.specs.Prelude.{◌≡◌, true, [], ◌∷◌};
+ghost use Rattle.tent.specs.Tent.{tent_knows, tent_place, tent_between};
 ghost use Rattle.std.proofs.Common.{rules};
 
+use crate::blend::Blend;
 use crate::place::{taps, tent_place};
-use levels::Level;
-use lines::LineKernel;
+use convolution::Axis;
+use lines::{Line, LineKernel};
 use sampler::ResamplingFunction;
 
-// Between two levels, `f` steps of `2 * m` on.
-fn blend_levels(a: u64, b: u64, m: u64, f: u64) -> u64
-    requires { (a < 2 ^ 16) × (b < 2 ^ 16) × Dimension m × (f < 2 * m) }
-    ensures { result ≡ tent_blend a b m f }
-{
-    (a * (2 * m - f) + b * f + m) / (2 * m)
-}
+#[derive(Default, Drop)]
+pub struct Linear;
 
-fn blend<T: Level>(a: T, b: T, m: usize, f: usize) -> T
-    requires { Dimension m × (f < 2 * m) }
-    ensures { result ≡ T.Level.of (tent_blend (T.Level.level a) (T.Level.level b) m f) }
-{
-    T::narrow(blend_levels(a.wide(), b.wide(), m as u64, f as u64))
-}
-
-#[derive(Drop)]
-pub struct Linear {}
-
-impl<T: Level> LineKernel<T> for Linear {
+impl<T: Blend> LineKernel<T> for Linear {
     // Index and remainder.
     type Place = (usize, usize);
 
@@ -35,39 +20,27 @@ impl<T: Level> LineKernel<T> for Linear {
 
     ghost fours = { true };
 
-    ghost value = { tent_value T.Level.level T.Level.of };
+    ghost value = { λ xs m x. tent_between T.Blend.zero T.Blend.blend xs m x ∷ [] };
 
     ghost placed = { λ n m x p. p ≡ tent_place n m x };
 
     ghost one = { Prim.search rules };
 
     fn knows_function(&self, function: ResamplingFunction) -> bool {
-        match function {
-            ResamplingFunction::Bilinear => true,
-            _ => false,
-        }
+        matches!(function, ResamplingFunction::Bilinear)
     }
 
     fn offers_4_rows(&self) -> bool {
         true
     }
 
-    fn place(&self, n: usize, m: usize, x: usize) -> (usize, usize) {
-        tent_place(n as u16, m as u16, x as u16)
+    fn place(&self, axis: &Axis, x: usize) -> (usize, usize) {
+        tent_place(axis.source as u16, axis.target as u16, x as u16)
     }
 
-    fn element(
-        &self,
-        place: (usize, usize),
-        src: &[T],
-        start: usize,
-        step: usize,
-        n: usize,
-        m: usize,
-        x: usize,
-    ) -> T {
+    fn element(&self, place: (usize, usize), line: &Line<'_, T>, x: usize) -> T {
         let (i, f) = place;
-        let (a, b) = taps(src, start, step, n, i);
-        blend(a, b, m, f)
+        let (a, b) = taps(line, i);
+        T::blend(a, b, line.axis.target, f)
     }
 }

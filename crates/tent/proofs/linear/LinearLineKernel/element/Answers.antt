@@ -1,27 +1,28 @@
 use Rattle.std.proofs.Common.{arith}
-use Rattle.lines.specs.Lines.{line}
+use Rattle.lines.specs.Along.{line_of}
 use Rattle.levels.proofs.Along.{length-line}
-use Rattle.tent.specs.Tent.{tent_blend}
 use Rattle.tent.proofs.Bounds.{index_within, remainder_within, between_is}
 use Rattle.tent.proofs.linear.LinearLineKernel.element.Goals as goal
 
 pub taps-a-requires : goal.taps-a-requires
 taps-a-requires g c =
     let a = c.args in
-    record { source = c.requires.source; index = (index_within a.n a.m a.x a.place c.requires.output (omega arith) c.requires.place, c.requires.sizes.0) }
+    let axis = a.line.now.axis.now in
+    index_within axis.source axis.target a.x a.place c.requires.output (omega (arith, axis.lengths)) c.requires.place
 
 pub blend-requires : goal.blend-requires
 blend-requires g c =
     let a = c.args in
-    (c.requires.sizes.1, remainder_within a.n a.m a.x a.place c.requires.output c.requires.place)
+    let axis = a.line.now.axis.now in
+    (axis.lengths.1, remainder_within axis.source axis.target a.x a.place c.requires.output c.requires.place)
 
 pub returns : goal.returns
 returns g c =
-    let t = g.T.Level in
+    let t = g.T.Blend in
     let a = c.args in
-    let xs = line a.src.now a.start a.step a.n in
-    let long = length-line a.src.now a.start a.step a.n c.requires.source in
-    let none = t.of 0 in
-    let taps = c.taps-a.ensures in
-    between_is none (λ a b m f. t.of (tent_blend (t.level a) (t.level b) m f)) xs a.n a.m a.x a.place c.taps-a.result.0 c.taps-a.result.1 c.blend.result
-    long c.requires.place (taps.first none) (taps.second none) c.blend.ensures
+    let l = a.line.now in
+    let axis = l.axis.now in
+    let long = length-line l.elements.now l.start l.step axis.source l.within in
+    let taps = c.taps-a in
+    between_is t.zero t.blend (line_of l) axis.source axis.target a.x a.place taps.result.0 taps.result.1 c.blend.result
+    long c.requires.place (taps.ensures.first t.zero) (taps.ensures.second t.zero) c.blend.ensures
