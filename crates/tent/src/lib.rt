@@ -5,15 +5,14 @@ pub mod blend;
 pub mod linear;
 pub mod place;
 
-pub use blend::Blend;
+pub use blend::{Blend, Rounded, Single};
 pub use linear::Linear;
 use lines::Lines;
 pub use place::tent_place;
 
-// The kernel where it works on 32-bit floats.
-pub type FloatLinear = Linear;
-
 // The families: on whole numbers, and on 32-bit floats.
-pub type Tent = Lines<Linear>;
+pub type Tent = Lines<Linear<Rounded>>;
 
 pub type FloatTent = Lines<FloatLinear>;
+
+pub type FloatLinear = Linear<Single>;

@@ -6,13 +6,16 @@ ghost use Rattle.std.proofs.Common.{rules};
 use crate::blend::Blend;
 use crate::place::{taps, tent_place};
 use convolution::Axis;
+use image::Element;
 use lines::{Line, LineKernel};
 use sampler::ResamplingFunction;
 
 #[derive(Default, Drop)]
-pub struct Linear;
+pub struct Linear<B> {
+    pub by: B,
+}
 
-impl<T: Blend> LineKernel<T> for Linear {
+impl<T: Element, B: Blend<T>> LineKernel<T> for Linear<B> {
     // Index and remainder.
     type Place = (usize, usize);
 
@@ -20,7 +23,7 @@ impl<T: Blend> LineKernel<T> for Linear {
 
     ghost fours = { true };
 
-    ghost value = { λ xs m x. tent_between T.Blend.zero T.Blend.blend xs m x ∷ [] };
+    ghost value = { λ xs m x. tent_between B.Blend.zero B.Blend.blend xs m x ∷ [] };
 
     ghost placed = { λ n m x p. p ≡ tent_place n m x };
 
@@ -41,6 +44,6 @@ impl<T: Blend> LineKernel<T> for Linear {
     fn element(&self, place: (usize, usize), line: &Line<'_, T>, x: usize) -> T {
         let (i, f) = place;
         let (a, b) = taps(line, i);
-        T::blend(a, b, line.axis.target, f)
+        self.by.blend(a, b, line.axis.target, f)
     }
 }

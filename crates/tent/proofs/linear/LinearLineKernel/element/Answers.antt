@@ -18,7 +18,7 @@ blend-requires g c =
 
 pub returns : goal.returns
 returns g c =
-    let t = g.T.Blend in
+    let t = g.B.Blend in
     let a = c.args in
     let l = a.line.now in
     let axis = l.axis.now in

@@ -1,6 +1,6 @@
 use Rattle.std.proofs.Common.{ap, ◌∙◌, arith}
 use Rattle.tent.proofs.Bounds.{blend_is}
-use Rattle.tent.proofs.blend.level_blend.Goals as goal
+use Rattle.tent.proofs.blend.RoundedBlend.blend.Goals as goal
 
 pub returns : goal.returns
 returns g c =
