@@ -1,10 +1,12 @@
 -- Lines in a buffer, and how many outputs there are.
-use Rattle.std.specs.Prelude.{◌≡◌, ℕ, zero, suc, ◌+◌, ◌-◌, ◌*◌, ◌/◌, ◌<◌, ◌≤◌, Bool, List, length, take, drop}
+use Rattle.std.specs.Prelude.{◌≡◌, ℕ, zero, suc, ◌+◌, ◌-◌, ◌*◌, ◌/◌, ◌<◌, ◌≤◌, Bool, List, length}
 use Rattle.std.proofs.Common.{sym, ◌∙◌, suc-mul, add_comm, mul-le-mul_right, mul-div_cancel, arith, rules}
 use Rattle.std.proofs.Math.Path.{ap}
 use Rattle.std.proofs.Math.Nat.{mul-one}
 use Rattle.std.proofs.lemmas.List.{places}
-use Rattle.image.specs.Rows.{RowsFit, part, rows, row, joined, painted}
+use Rattle.image.specs.Rows.{part, rows, row, joined, painted}
+use Rattle.image.specs.Images.{image_of}
+use Rattle.image.specs.declared.source_rows.SourceRows.{SourceRows}
 use Rattle.image.proofs.Strides.{row_fits}
 pub use Rattle.image.proofs.Strides.{pixels_within as packed}
 use Rattle.image.proofs.RowsOf.{length-rows, row-rows, rows_even, painted_same}
@@ -13,6 +15,7 @@ use Rattle.sampler.specs.declared.sampler.ResamplingFunction.{ResamplingFunction
 use Rattle.convolution.specs.Meaning.{Shaped, source_row, row_value}
 use Rattle.convolution.specs.declared.convolution.ConvolutionOptions.{ConvolutionOptions}
 use Rattle.lines.specs.Lines.{line, column_line, line_meaning}
+use Rattle.lines.specs.Along.{pixel}
 use Rattle.lines.specs.Joins.{joined_none, joined_same, length-joined_below}
 
 pub pixel_count : (c n len : ℕ) → 0 < c → len ≡ n * c → len / c ≡ n
@@ -22,21 +25,10 @@ pixel_count c n len some long = ap (λ (k : ℕ). k / c) long ∙ mul-div_cancel
 pub pixel_fits : (x m c : ℕ) → x < m → x * c + c ≤ m * c
 pixel_fits x m c below = omega (arith, suc-mul x c, mul-le-mul_right c below)
 
--- and pixel x of each of h rows of m pixels
-pub pixel_of_row_fits : (x m c i h s len : ℕ) → x < m → i < h → RowsFit (m * c) s h len → x * c + i * s + c ≤ len
-pixel_of_row_fits x m c i h s len below row fits =
-    let within = row_fits i h s (m * c) len row fits.within in omega (arith, pixel_fits x m c below)
-
 module _ {X : Type 0} where
-  -- a part as a range has it
-  pub part_range : (xs : List X) (a n : ℕ) → take (a + n - a) (drop a xs) ≡ part a n xs
-  part_range xs a n = ap (λ (k : ℕ). take k (drop a xs)) (omega arith)
-
-  pub length_range : (xs : List X) (a n : ℕ) → a + n ≤ length xs → length (take (a + n - a) (drop a xs)) ≡ n
-  length_range xs a n fits = ap length (part_range xs a n) ∙ search (rules, places)
-
-  pub length-row : (xs : List X) (i h s n : ℕ) → i < h → s * (h - 1) + n ≤ length xs → length (part (i * s) n xs) ≡ n
-  length-row xs i h s n below fits = let within = row_fits i h s n (length xs) below fits in search (rules, places)
+  -- the length of a row that was lent
+  pub row_even : (r : SourceRows X) (y : ℕ) → y < r.height → length (row (image_of r) y) ≡ r.row_length
+  row_even r y below = rows_even r.elements.now r.row_length r.stride r.height r.fit.within y (omega (arith, length-rows r.elements.now r.row_length r.stride r.height))
 
   pub length-line : (xs : List X) (k s n : ℕ) → s * (n - 1) + suc k ≤ length xs → length (line xs k s n) ≡ n
   unfolding line
@@ -67,7 +59,7 @@ module _ {X : Type 0} where
         let first = even 0 some in
         length-joined_below _ 1 _ (λ j l. one _ h y (omega (arith, length-column_line im n j even (omega arith)))) ∙ (mul-one _ ∙ first)
 
-    length_across : (c n : ℕ) (xs : List X) (w : ℕ) → 0 < n → length xs ≡ n * c → length (joined (λ x. joined (λ k. value (line xs k c (length xs / c)) w x) c) w) ≡ w * c
+    length_across : (c n : ℕ) (xs : List X) (w : ℕ) → 0 < n → length xs ≡ n * c → length (joined (pixel value xs c (length xs / c) w) w) ≡ w * c
     length_across zero n xs w some long = length-joined_below _ 0 w (λ x l. ap length (joined_none _))
     length_across (suc c) n xs w some long =
         let pixels = pixel_count (suc c) n (length xs) (omega arith) long in
@@ -81,24 +73,25 @@ module _ {X : Type 0} where
         ∙ ap (joined (λ j. value (column_line (rows xs n s h) j) m y)) (sym first)
 
     -- the outputs of each pixel of a row of n pixels are its row value
-    pub across_outputs : (xs : List X) (c n w : ℕ) → 0 < c → length xs ≡ n * c → joined (λ x. joined (λ k. value (line xs k c n) w x) c) w ≡ joined (λ x. joined (λ k. value (line xs k c (length xs / c)) w x) c) w
-    across_outputs xs c n w some long = ap (λ (p : ℕ). joined (λ x. joined (λ k. value (line xs k c p) w x) c) w) (sym (pixel_count c n (length xs) some long))
+    pub across_outputs : (xs : List X) (c n w : ℕ) → 0 < c → length xs ≡ n * c → joined (pixel value xs c n w) w ≡ joined (pixel value xs c (length xs / c) w) w
+    across_outputs xs c n w some long = ap (λ (p : ℕ). joined (pixel value xs c p w) w) (sym (pixel_count c n (length xs) some long))
 
     -- the outputs of four rows of pixels of c elements are their row values
-    pub across_four : (knows : ResamplingFunction → Bool) (o : ConvolutionOptions) (im : List (List X)) (dst : List X) (t c : ℕ) → o.channels ≡ c → 0 < o.channels → ((i : ℕ) → i < 4 → length (row im i) ≡ source_row o)
-        → painted dst t (λ i. joined (λ x. joined (λ k. value (line (row im i) k c o.src_size.width) o.dst_size.width x) c) o.dst_size.width) 4
-        ≡ painted dst t (row_value (line_meaning knows value) o im) 4
-    across_four knows o im dst t c is some even =
+    pub across_four : (knows : ResamplingFunction → Bool) (o : ConvolutionOptions) (r : SourceRows X) (dst : List X) (t c : ℕ) → o.channels ≡ c → 0 < o.channels → r.row_length ≡ source_row o → r.height ≡ 4
+        → painted dst t (λ i. joined (pixel value (row (image_of r) i) c o.src_size.width o.dst_size.width) o.dst_size.width) 4
+        ≡ painted dst t (row_value (line_meaning knows value) o (image_of r)) 4
+    across_four knows o r dst t c is some wide four =
         let n = o.src_size.width in
         let m = o.dst_size.width in
-        ap (λ (c : ℕ). painted dst t (λ i. joined (λ x. joined (λ k. value (line (row im i) k c n) m x) c) m) 4) (sym is)
-        ∙ painted_same dst t _ _ 4 (λ i l. across_outputs (row im i) o.channels n m some (even i l))
+        let even : (i : ℕ) → i < 4 → length (row (image_of r) i) ≡ source_row o = λ i l. row_even r i (omega arith) ∙ wide in
+        ap (λ (c : ℕ). painted dst t (λ i. joined (pixel value (row (image_of r) i) c n m) m) 4) (sym is)
+        ∙ painted_same dst t _ _ 4 (λ i l. across_outputs (row (image_of r) i) o.channels n m some (even i l))
 
     -- the outputs of the channels of a row's pixels
-    pub length-pixel : (xs : List X) (c n m x : ℕ) → 0 < n → length xs ≡ n * c → length (joined (λ k. value (line xs k c n) m x) c) ≡ c
+    pub length-pixel : (xs : List X) (c n m x : ℕ) → 0 < n → length xs ≡ n * c → length (pixel value xs c n m x) ≡ c
     length-pixel xs c n m x some long = length_outputs xs c n c m x some (omega (arith, packed n c some))
 
-    pub length_pixels : (xs : List X) (c n m x : ℕ) → 0 < n → length xs ≡ n * c → length (joined (λ y. joined (λ k. value (line xs k c n) m y) c) x) ≡ x * c
+    pub length_pixels : (xs : List X) (c n m x : ℕ) → 0 < n → length xs ≡ n * c → length (joined (pixel value xs c n m) x) ≡ x * c
     length_pixels xs c n m x some long = length-joined_below _ c x (λ y l. length-pixel xs c n m y some long)
 
     pub line_shaped : (knows : ResamplingFunction → Bool) → Shaped (line_meaning knows value)

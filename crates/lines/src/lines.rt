@@ -1,9 +1,9 @@
 // The family of a line kernel, for both axes: a column's line goes from row to row, and a row's from pixel to pixel.
-ghost use Rattle.std.specs.Prelude.{◌≡◌, ◌*◌, ◌<◌, length};
+ghost use Rattle.std.specs.Prelude.{◌≡◌, ℕ, ◌+◌, ◌-◌, ◌*◌, ◌≤◌, ◌<◌, length};
 ghost use Rattle.image.specs.Rows.{RowsFit, row, joined, painted};
 ghost use Rattle.image.specs.Images.{image_of};
 ghost use Rattle.lines.specs.Lines.{line_meaning};
-ghost use Rattle.lines.specs.Along.{pixel};
+ghost use Rattle.lines.specs.Along.{lent, pixel};
 ghost use Rattle.lines.specs.OfLines.{line_shaped};
 
 use crate::line::Line;
@@ -45,6 +45,30 @@ fn pixel_of_row<T: Element, K: LineKernel<T>, const N: usize>(
     pixel
 }
 
+// The same of four rows. In a function of its own, since the pixels stay in registers then.
+fn pixels_of_4_rows<T: Element, K: LineKernel<T>, const N: usize>(
+    kernel: &K,
+    place: K::Place,
+    rows: &[&[T]; 4],
+    axis: &Axis,
+    x: usize,
+    dst: &mut [T],
+    dst_stride: usize,
+)
+    requires place { K.LineKernel.placed axis.now.source axis.now.target x place }
+    requires output { x < axis.now.target }
+    requires channels { 0 < N }
+    requires source { (i : ℕ) → i < 4 → length (row (lent rows.now) i) ≡ axis.now.source * N }
+    requires target { dst_stride * (4 - 1) + N ≤ length dst.old }
+    ensures { dst.new ≡ painted dst.old dst_stride (λ i. pixel K.LineKernel.value (row (lent rows.now) i) N axis.now.source axis.now.target x) 4 }
+{
+    for (i, row) in rows.iter().enumerate() {
+        let pixel = pixel_of_row::<T, K, N>(kernel, place, row, axis, x);
+        let to = i * dst_stride;
+        dst[to..to + N].copy_from_slice(&pixel);
+    }
+}
+
 // All outputs of one row of pixels of N elements. The channels are a constant of the loops, so that the compiler can
 // write each pixel at once.
 fn row_of_pixels<T: Element, K: LineKernel<T>, const N: usize>(
@@ -82,11 +106,15 @@ fn four_rows_of_pixels<T: Element, K: LineKernel<T>, const N: usize>(
     let rows = [src.row(0), src.row(1), src.row(2), src.row(3)];
     for x in 0..axis.target {
         let shared = kernel.place(axis, x);
-        for (i, row) in rows.iter().enumerate() {
-            let pixel = pixel_of_row::<T, K, N>(kernel, shared, row, axis, x);
-            let at = x * N + i * dst_stride;
-            dst[at..at + N].copy_from_slice(&pixel);
-        }
+        pixels_of_4_rows::<T, K, N>(
+            kernel,
+            shared,
+            &rows,
+            axis,
+            x,
+            &mut dst[x * N..],
+            dst_stride,
+        );
     }
 }
 

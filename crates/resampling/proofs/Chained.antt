@@ -1,15 +1,29 @@
 -- Lists of stages: where they end, what they come to, and what is left in a half.
-use Rattle.std.proofs.Common.{◌≡◌, ℕ, ◌+◌, ◌-◌, ◌*◌, ◌≤◌, Bool, true, false, cond, List, [], ◌∷◌, ◌++◌, length, take, refl, arith, rules}
-use Rattle.std.proofs.lemmas.List.{places, same_lists}
+use Rattle.std.proofs.Common.{◌≡◌, ℕ, ◌+◌, ◌-◌, ◌*◌, ◌<◌, ◌≤◌, Bool, true, false, cond, List, [], ◌∷◌, ◌++◌, length, get_or, take, refl, ap, ◌∙◌, arith, rules}
+use Rattle.std.proofs.lemmas.List.{places, same_lists, take_more}
 use Rattle.image.specs.Rows.{part, rows}
 use Rattle.image.specs.declared.image_size.ImageSize.{ImageSize}
 use Rattle.image.proofs.Strides.{row_fits}
 use Rattle.convolution.specs.Meaning.{Meaning}
+use Rattle.sampler.specs.declared.sampler.ResamplingFunction.TheVariants.{Bilinear}
 use Rattle.planner.specs.declared.stage.Stage.{Stage}
+use Rattle.planner.specs.declared.stage.StageKind.TheVariants.{Copied}
 use Rattle.planner.specs.Chains.{Linked}
 use Rattle.values.specs.Values.{stage_value, composed}
 use Rattle.values.proofs.Copies.{listed_same}
 use Rattle.resampling.specs.Running.{end_of}
+
+-- what a stage past the last would be
+abbrev pub blank : Stage
+blank = record { kind = Copied; function = Bilinear; source = record { width = 0; height = 0 }; target = record { width = 0; height = 0 } }
+
+end_last : (s : ImageSize) (us : List Stage) (v : Stage) → end_of s (us ++ v ∷ []) ≡ v.target
+end_last s [] v = refl
+end_last s (u ∷ us) v = end_last u.target us v
+
+-- one stage on
+pub end_more : (s : ImageSize) (sts : List Stage) (i : ℕ) (z : Stage) → i < length sts → end_of s (take (i + 1) sts) ≡ (get_or sts i z).target
+end_more s sts i z l = ap (end_of s) (take_more sts i z l) ∙ end_last s (take i sts) (get_or sts i z)
 
 pub linked_end : (s t : ImageSize) (sts : List Stage) → Linked s t sts → end_of s sts ≡ t
 linked_end s t [] e = e

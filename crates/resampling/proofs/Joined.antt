@@ -1,17 +1,12 @@
 -- Parts of one length, one after the other: element j is element j % c of part j / c.
-use Rattle.std.proofs.Common.{◌≡◌, ℕ, zero, suc, ◌+◌, ◌-◌, ◌*◌, ◌/◌, ◌%◌, ◌<◌, ◌≤◌, List, length, get_or, sym, ap, ◌∙◌, ⊎_elim, mul-le-mul_right, suc-mul, zero-mul, arith, length-append}
+use Rattle.std.proofs.Common.{◌≡◌, ℕ, zero, suc, ◌+◌, ◌-◌, ◌*◌, ◌/◌, ◌%◌, ◌<◌, ◌≤◌, List, length, get_or, sym, ap, ◌∙◌, ⊎_elim, mul-le-mul_right, suc-mul, arith}
 use Rattle.std.proofs.lemmas.List.{same_lists, get_or_append_left, get_or-append_right}
 use Rattle.std.proofs.lemmas.Bool.{cases_lt}
 use Rattle.std.proofs.lemmas.Nat.{div_below, mod_below, div-add-mod'}
 use Rattle.image.specs.Rows.{joined}
+use Rattle.values.proofs.Shapes.{length_parts}
 
 module _ {X : Type 0} where
-  pub length_parts : (v : ℕ → List X) (c h : ℕ) → ((x : ℕ) → x < h → length (v x) ≡ c) → length (joined v h) ≡ h * c
-  unfolding joined
-  length_parts v c zero even = sym (zero-mul c)
-  length_parts v c (suc h) even =
-      length-append (joined v h) (v h) ∙ omega (arith, length_parts v c h (λ x l. even x (omega arith)), even h (omega arith), suc-mul h c)
-
   pub get_or-joined : (v : ℕ → List X) (c h : ℕ) → ((x : ℕ) → x < h → length (v x) ≡ c) → (x i : ℕ) (d : X) → x < h → i < c → get_or (joined v h) (x * c + i) d ≡ get_or (v x) i d
   unfolding joined
   get_or-joined v c zero even x i d l b = absurd (omega arith)

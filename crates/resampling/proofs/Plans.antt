@@ -9,12 +9,12 @@ use Rattle.planner.specs.declared.stage.Stage.{Stage}
 use Rattle.planner.specs.Stages.{stages_of}
 use Rattle.planner.specs.Chains.{WellSized, Each, Linked}
 use Rattle.planner.specs.Plans.{needs_kernel, work_of, half_of}
-use Rattle.image.specs.Rows.{row, rows, painted}
-use Rattle.image.specs.Rows.{RowsFit}
+use Rattle.image.specs.Rows.{RowsFit, row, painted}
+use Rattle.image.specs.declared.source_rows.SourceRows.{SourceRows}
 use Rattle.convolution.specs.Meaning.{Meaning}
 use Rattle.values.specs.Values.{composed}
 use Rattle.resampling.specs.declared.multi_step_plan.Settings.{Settings}
-use Rattle.resampling.specs.Running.{AllRunnable, Roomy}
+use Rattle.resampling.specs.Running.{RowsOf, Runnable, AllRunnable, Roomy}
 
 -- a list of two or more, by its ends
 pub split : {X : Type 0} (xs : List X) (z : X) (k : ℕ) → 0 < k → length xs ≡ k + 1
@@ -58,21 +58,21 @@ all_runnable deep o work (st ∷ sts) z p q d w = (
   all_runnable deep o work sts (λ k e l. z (suc k) e (omega arith)) p q d.1 (omega (arith, w)),
 )
 
-pub runnable_front : (deep : Bool) (o : Settings) (work : ℕ) (us vs : List Stage) → AllRunnable deep o work (us ++ vs) → AllRunnable deep o work us
+runnable_front : (deep : Bool) (o : Settings) (work : ℕ) (us vs : List Stage) → AllRunnable deep o work (us ++ vs) → AllRunnable deep o work us
 runnable_front deep o work [] vs r = tt
 runnable_front deep o work (u ∷ us) vs r = (r.0, runnable_front deep o work us vs r.1)
 
-pub runnable_back : (deep : Bool) (o : Settings) (work : ℕ) (us vs : List Stage) → AllRunnable deep o work (us ++ vs) → AllRunnable deep o work vs
+runnable_back : (deep : Bool) (o : Settings) (work : ℕ) (us vs : List Stage) → AllRunnable deep o work (us ++ vs) → AllRunnable deep o work vs
 runnable_back deep o work [] vs r = r
 runnable_back deep o work (u ∷ us) vs r = runnable_back deep o work us vs r.1
 
 -- every stage but the last has room in a half
-pub roomy : (c n : ℕ) (us : List Stage) (v : Stage) → half_of c (us ++ v ∷ []) ≤ n → Roomy c n us
+roomy : (c n : ℕ) (us : List Stage) (v : Stage) → half_of c (us ++ v ∷ []) ≤ n → Roomy c n us
 roomy c n [] v h = tt
 roomy c n (u ∷ []) v h = (omega (arith, h), tt)
 roomy c n (u ∷ w ∷ us) v h = (omega (arith, h), roomy c n (w ∷ us) v (omega (arith, h)))
 
-pub linked_front : (s t : ImageSize) (us : List Stage) (v : Stage) → Linked s t (us ++ v ∷ []) → Linked s v.source us
+linked_front : (s t : ImageSize) (us : List Stage) (v : Stage) → Linked s t (us ++ v ∷ []) → Linked s v.source us
 linked_front s t [] v l = sym l.0
 linked_front s t (u ∷ us) v l = (l.0, linked_front u.target t us v l.1)
 
@@ -89,14 +89,35 @@ plan_runnable deep o scaler c s t sts work er ec es z p q d w =
     let enough : work_of o.route o.channels sts ≤ work = rw (er, ec, es) w in
     all_runnable deep o work sts z (omega (arith, ec)) (omega (arith, ec)) deeper enough
 
+-- what a chain counts on, where the stages of a plan are h, the us and v
+pub record Parted (deep : Bool) (o : Settings) (work : ℕ) (s t : ImageSize) (sts : List Stage) (h : Stage) (us : List Stage) (v : Stage) : Type 0 where
+  pub begins : h.source ≡ s
+  pub linked : Linked h.target v.source us
+  pub ends : v.target ≡ t
+  pub ready : Runnable deep o work h × AllRunnable deep o work us × Runnable deep o work v
+  pub room : (n : ℕ) → half_of o.channels sts ≤ n → Roomy o.channels n (h ∷ us)
+
+pub parted : (deep : Bool) (o : Settings) (work : ℕ) (s t : ImageSize) (sts : List Stage) (h : Stage) (us : List Stage) (v : Stage) → sts ≡ h ∷ (us ++ v ∷ []) → Linked s t sts → AllRunnable deep o work sts → Parted deep o work s t sts h us v
+parted deep o work s t sts h us v e chained runs =
+    let l = subst (Linked s t) e chained in
+    let r = subst (AllRunnable deep o work) e runs in
+    record {
+      begins = l.0;
+      linked = linked_front h.target t us v l.1;
+      ends = linked_last h.target t us v l.1;
+      ready = (r.0, runnable_front deep o work us (v ∷ []) r.1, (runnable_back deep o work us (v ∷ []) r.1).0);
+      room = λ n fits. roomy o.channels n (h ∷ us) v (omega (arith, ap (half_of o.channels) e));
+    }
+
 -- the same settings, stages and sizes give the same rows
-pub same_value : {X : Type 0} (dst xs : List X) (dst_stride stride depth : ℕ) (m m' : Meaning X) (c c' : ℕ) (sts sts' : List Stage) (s s' t t' : ImageSize)
-    → m ≡ m' → c ≡ c' → sts ≡ sts' → s ≡ s' → t ≡ t'
-    → painted dst dst_stride (row (composed m c depth sts (rows xs (s.width * c) stride s.height))) t.height
-    ≡ painted dst dst_stride (row (composed m' c' depth sts' (rows xs (s'.width * c') stride s'.height))) t'.height
-same_value dst xs dst_stride stride depth m m' c c' sts sts' s s' t t' em ec el es et =
-    λ i. painted dst dst_stride (row (composed (em i) (ec i) depth (el i) (rows xs ((es i).width * ec i) stride (es i).height))) (et i).height
+pub same_value : {X : Type 0} (dst : List X) (im : List (List X)) (t depth : ℕ) (m m' : Meaning X) (c c' : ℕ) (sts sts' : List Stage) (s s' : ImageSize)
+    → m ≡ m' → c ≡ c' → sts ≡ sts' → s ≡ s'
+    → painted dst t (row (composed m c depth sts im)) s.height ≡ painted dst t (row (composed m' c' depth sts' im)) s'.height
+same_value dst im t depth m m' c c' sts sts' s s' em ec el es = λ i. painted dst t (row (composed (em i) (ec i) depth (el i) im)) (es i).height
 
 -- the rows of a size fit whatever the numbers are called
 pub same_fit : (c c' stride len : ℕ) (s s' : ImageSize) → c ≡ c' → s ≡ s' → RowsFit (s'.width * c') stride s'.height len → RowsFit (s.width * c) stride s.height len
-same_fit c c' stride len s s' ec es f = subst (λ (u : ImageSize). RowsFit (u.width * c) stride u.height len) (sym es) (subst (λ (k : ℕ). RowsFit (s'.width * k) stride s'.height len) (sym ec) f)
+same_fit c c' stride len s s' ec es f = rw (ec, es) f
+
+pub same_rows : {X : Type 0} (c c' : ℕ) (s s' : ImageSize) (r : SourceRows X) → c ≡ c' → s ≡ s' → RowsOf c' s' r → RowsOf c s r
+same_rows c c' s s' r ec es f = rw (ec, es) f

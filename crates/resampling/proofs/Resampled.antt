@@ -1,21 +1,19 @@
 -- What the checks of a resample show, and how its answer is joined.
-use Rattle.std.proofs.Common.{◌≡◌, ℕ, ◌*◌, ◌≤◌, Bool, true, false, not, ◌&&◌, ◌||◌, eqb, ltb, List, sym, subst, ap₂, arith}
+use Rattle.std.proofs.Common.{◌≡◌, ℕ, ◌*◌, ◌≤◌, Bool, true, false, not, ◌&&◌, ◌||◌, eqb, ltb, ap₂, ◌∙◌, arith}
 use Rattle.std.proofs.lemmas.Bool.Decides.{nat_tests}
 use Rattle.image.specs.Refusals.{Answer, answer, and_then}
 use Rattle.image.specs.Refusals.Answer.{granted, refused}
-use Rattle.image.specs.Rows.{row, rows, painted}
+use Rattle.image.specs.Rows.{RowsFit}
 use Rattle.image.specs.declared.numbers.Numbers.{Numbers}
-use Rattle.image.specs.Stores.{pitch, image, laid, same_answer}
+use Rattle.image.specs.Stores.{pitch, row_length, same_answer}
 use Rattle.image.specs.declared.image_size.ImageSize.{ImageSize}
+use Rattle.image.specs.declared.source_rows.SourceRows.{SourceRows}
 use Rattle.image.proofs.Granted.{Sound, Clear, clear, at_most}
 use Rattle.sampler.specs.Functions.{is_nearest}
-use Rattle.image.specs.Rows.{RowsFit}
-use Rattle.convolution.specs.Meaning.{Meaning}
-use Rattle.planner.specs.declared.stage.Stage.{Stage}
 use Rattle.planner.specs.Stages.{same_size}
-use Rattle.values.specs.Values.{composed}
 use Rattle.history.specs.Calls.{Request, work_size, half_size, buffer_checks, buffer_answer}
 use Rattle.history.proofs.Allowed.{Matched}
+use Rattle.resampling.specs.Running.{RowsOf}
 
 pub joined_three : (a b c x d : Answer) → granted ≡ a → granted ≡ b → granted ≡ c → x ≡ d → x ≡ and_then a (and_then b (and_then c d))
 joined_three granted granted granted x d p q r e = e
@@ -64,14 +62,8 @@ buffers_enough deep r depth work first second ok =
 pub plan_fits : (n : Numbers) (len c stride : ℕ) (s : ImageSize) → Sound n len → n.channels ≡ c → n.width ≡ s.width → n.height ≡ s.height → stride ≡ pitch n → RowsFit (s.width * c) stride s.height len
 plan_fits n len c stride s ok ec ew eh es =
     let f : RowsFit (n.width * n.channels) (pitch n) n.height len = record { apart = ok.wide; within = ok.fits } in
-    subst (λ (k : ℕ). RowsFit (s.width * c) k s.height len) (sym es)
-    (subst (λ (k : ℕ). RowsFit (s.width * c) (pitch n) k len) eh
-    (subst (λ (k : ℕ). RowsFit (k * c) (pitch n) n.height len) ew
-    (subst (λ (k : ℕ). RowsFit (n.width * k) (pitch n) n.height len) ec f)))
+    rw (es, ← ec, ← ew, ← eh) f
 
--- the plan's stages, run on a source and into a destination of its sizes, lay its value into the destination
-pub plan_laid : {X : Type 0} (m : Meaning X) (c depth : ℕ) (sts : List Stage) (a b : ImageSize) (d s : Numbers) (xs src : List X) (dst_stride src_stride : ℕ)
-    → s.channels ≡ c → s.width ≡ a.width → s.height ≡ a.height → d.height ≡ b.height → dst_stride ≡ pitch d → src_stride ≡ pitch s
-    → painted xs dst_stride (row (composed m c depth sts (rows src (a.width * c) src_stride a.height))) b.height ≡ laid d (composed m c depth sts (image s src)) xs
-plan_laid m c depth sts a b d s xs src dst_stride src_stride ec ew eh eb ed es =
-    λ i. painted xs (ed i) (row (composed m c depth sts (rows src (sym ew i * sym ec i) (es i) (sym eh i)))) (sym eb i)
+-- the rows of a store of a plan's size
+pub plan_rows : {X : Type 0} (n : Numbers) (c : ℕ) (s : ImageSize) (r : SourceRows X) → r.row_length ≡ row_length n → r.height ≡ n.height → n.channels ≡ c → n.width ≡ s.width → n.height ≡ s.height → RowsOf c s r
+plan_rows n c s r e f ec ew eh = record { width = e ∙ ap₂ (λ a b. a * b) ew ec; height = f ∙ eh }

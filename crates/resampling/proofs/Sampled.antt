@@ -2,17 +2,18 @@
 use Rattle.std.proofs.Common.{◌≡◌, ℕ, ◌*◌, ◌<◌, ◌≤◌, false, not, eqb, List, length, sym, ap, ◌∙◌, subst, arith}
 use Rattle.std.proofs.lemmas.Bool.Decides.{nat_tests}
 use Rattle.image.specs.Refusals.Answer.{granted}
-use Rattle.image.specs.Rows.{part, rows, row, painted}
+use Rattle.image.specs.Rows.{row}
 use Rattle.image.specs.declared.numbers.Numbers.{Numbers}
-use Rattle.image.specs.Stores.{pitch, row_length, image, laid, LaidOn}
+use Rattle.image.specs.Stores.{size_of, row_length, image, laid, LaidOn}
 use Rattle.image.specs.declared.image_size.ImageSize.{ImageSize}
 use Rattle.image.proofs.Copied.{image_even}
 use Rattle.image.proofs.Granted.{Clear, clear, at_most, Sound}
 use Rattle.image.proofs.Laid.{laid_on}
-use Rattle.image.proofs.RowsOf.{row_listed, row-rows}
+use Rattle.image.proofs.RowsOf.{row_listed}
 use Rattle.convolution.specs.Meaning.{dimension_limit}
-use Rattle.values.specs.Nearest.{nearest, nearest_row, nearest_image, nearest_pixels, size_of, nearest_checks, between_answer}
-use Rattle.resampling.proofs.Taken.{nearest_below, length-nearest_row}
+use Rattle.values.specs.Nearest.{nearest, nearest_row, nearest_image, nearest_pixels, nearest_checks, between_answer}
+use Rattle.values.proofs.Within.{nearest_below}
+use Rattle.resampling.proofs.Taken.{length-nearest_row}
 
 -- what the call's own checks show when they grant
 pub record Between (d s : Numbers) : Type 0 where
@@ -38,27 +39,17 @@ between d s ok =
     }
 
 module _ {X : Type 0} where
-  -- row y of the image, from the row of the buffer that it is taken from
-  pub sampled_row : (src ys : List X) (c u a y : ℕ) (s t : ImageSize) → y < t.height → nearest s.height t.height y < s.height → a ≡ nearest s.height t.height y * u → ys ≡ nearest_row c s.width t.width (part a (s.width * c) src) → ys ≡ row (nearest_image c s t (rows src (s.width * c) u s.height)) y
-  sampled_row src ys c u a y s t l b at is =
-      let n = s.width * c in
-      let k = nearest s.height t.height y in
-      is
-      ∙ ap (nearest_row c s.width t.width) (ap (λ (z : ℕ). part z n src) at ∙ sym (row-rows src n u s.height k b))
-      ∙ sym (row_listed (λ z. nearest_row c s.width t.width (row (rows src n u s.height) (nearest s.height t.height z))) t.height y l)
+  -- row y of the image, from the row that it is taken from
+  pub sampled_row : (c : ℕ) (s t : ImageSize) (im : List (List X)) (y : ℕ) → y < t.height → row (nearest_image c s t im) y ≡ nearest_row c s.width t.width (row im (nearest s.height t.height y))
+  sampled_row c s t im y l = row_listed (λ z. nearest_row c s.width t.width (row im (nearest s.height t.height z))) t.height y l
 
   -- every row of it is as long as the destination's
   sampled_even : (d s : Numbers) (src : List X) → Sound s (length src) → Between d s → (y : ℕ) → y < d.height → length (row (nearest_pixels d s src) y) ≡ row_length d
   sampled_even d s src ok m y l =
       let k = nearest s.height d.height y in
-      ap length (row_listed (λ z. nearest_row s.channels s.width d.width (row (image s src) (nearest s.height d.height z))) d.height y l)
+      ap length (sampled_row s.channels (size_of s) (size_of d) (image s src) y l)
       ∙ length-nearest_row (row (image s src) k) s.width d.width s.channels ok.some_width (image_even s src ok k (nearest_below s.height d.height y l ok.some_height))
       ∙ ap (λ (z : ℕ). d.width * z) (sym m.channels)
-
-  pub sampled : (d s : Numbers) (xs src : List X) (t u : ℕ) → t ≡ pitch d → u ≡ pitch s → painted xs t (row (nearest_image s.channels (size_of s) (size_of d) (rows src (row_length s) u s.height))) d.height ≡ laid d (nearest_pixels d s src) xs
-  sampled d s xs src t u p q =
-      ap (λ (k : ℕ). painted xs k (row (nearest_image s.channels (size_of s) (size_of d) (rows src (row_length s) u s.height))) d.height) p
-      ∙ ap (λ (k : ℕ). painted xs (pitch d) (row (nearest_image s.channels (size_of s) (size_of d) (rows src (row_length s) k s.height))) d.height) q
 
   pub sampled_on : (d s : Numbers) (xs src ys : List X) → Sound d (length xs) → Sound s (length src) → Between d s → ys ≡ laid d (nearest_pixels d s src) xs → LaidOn d (nearest_pixels d s src) xs ys
   sampled_on d s xs src ys a b m e =

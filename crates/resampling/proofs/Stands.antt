@@ -1,12 +1,13 @@
 -- A call that is a step extends every past of its sheet, and what holds of pasts holds after it.
-use Rattle.std.proofs.Common.{◌≡◌, ℕ, ◌+◌, ◌-◌, ◌*◌, Bool, false, cond, List, ◌∷◌, length, take, drop, is_ok, Ok, Err, Result, ap, ◌∙◌, arith, length-drop, take_all}
+use Rattle.std.proofs.Common.{◌≡◌, ℕ, ◌-◌, Bool, false, cond, List, ◌∷◌, length, take, drop, is_ok, Ok, Err, Result, ap, ◌∙◌, arith, length-drop, take_all}
 use borrow.Rule.Slice.PartMut.{put_mid, put_same}
 use Rattle.image.specs.declared.validation.PicScaleError.{PicScaleError}
 use Rattle.image.specs.Refusals.{Answer, reply, and_then}
 use Rattle.image.specs.Refusals.Answer.{granted, refused}
 use Rattle.image.specs.Rows.{put}
 use Rattle.image.specs.declared.numbers.Numbers.{Numbers}
-use Rattle.image.specs.Stores.{pitch, place, laid, part_numbers}
+use Rattle.image.specs.declared.numbers.Part.{Part}
+use Rattle.image.specs.Stores.{place, laid, part_numbers}
 use Rattle.image.proofs.Paint.{put_mid-put}
 use Rattle.history.specs.Calls.{Call, Store, is_granted, Step}
 use Rattle.history.specs.Past.{Entry, Past, Upheld}
@@ -33,10 +34,6 @@ joined_two granted granted x d p q e = e
 joined_two (refused n vs) b x d p q e = let z : ◌≡◌ {A = ℕ} 0 1 = cc in absurd (omega arith)
 joined_two granted (refused n vs) x d p q e = let z : ◌≡◌ {A = ℕ} 0 1 = cc in absurd (omega arith)
 
--- the numbers of a window whose stride is t
-abbrev pub with_stride : Numbers → ℕ → ℕ → ℕ → Numbers
-with_stride n w h t = record { channels = n.channels; width = w; height = h; stride = t; depth = n.depth }
-
 module _ {X : Type 0} where
   pub where_granted : (r : Result (Unit {0}) PicScaleError) (zs a b : List X) → zs ≡ cond (is_ok r) a b → granted ≡ reply r → zs ≡ a
   where_granted (Ok u) zs a b e g = e
@@ -47,15 +44,14 @@ module _ {X : Type 0} where
   where_refused (Err f) zs a b e g = e
 
   -- a sheet after a granted call on the part of its buffer from a window's corner on
-  pub window_laid : (n : Numbers) (xs ys : List X) (im : List (List X)) (x y w h t k : ℕ) → t ≡ pitch n → k ≡ length xs - (y * t + x * n.channels) → k ≡ length ys
-      → ys ≡ laid (with_stride n w h t) im (take k (drop (y * t + x * n.channels) xs))
-      → put_mid (y * t + x * n.channels) k xs ys ≡ put (place n x y) (laid (part_numbers n w h) im (drop (place n x y) xs)) xs
-  window_laid n xs ys im x y w h t k et ek el e =
-      let off = y * t + x * n.channels in
+  pub window_laid : (n m : Numbers) (xs ys : List X) (im : List (List X)) (p : Part) (off k : ℕ) → m ≡ part_numbers n p.width p.height → off ≡ place n p.x p.y → k ≡ length xs - off → k ≡ length ys
+      → ys ≡ laid m im (take k (drop off xs))
+      → put_mid off k xs ys ≡ put (place n p.x p.y) (laid (part_numbers n p.width p.height) im (drop (place n p.x p.y) xs)) xs
+  window_laid n m xs ys im p off k em eo ek el e =
       let all : take k (drop off xs) ≡ drop off xs = take_all k (drop off xs) (omega (arith, length-drop off xs)) in
       put_mid-put off k xs ys el
-      ∙ (ap (λ zs. put off zs xs) (e ∙ ap (laid (with_stride n w h t) im) all)
-      ∙ (λ i. put (y * et i + x * n.channels) (laid (with_stride n w h (et i)) im (drop (y * et i + x * n.channels) xs)) xs))
+      ∙ (ap (λ zs. put off zs xs) (e ∙ ap (laid m im) all)
+      ∙ (λ i. put (eo i) (laid (em i) im (drop (eo i) xs)) xs))
 
   pub window_kept : (off k : ℕ) (xs ys : List X) → ys ≡ take k (drop off xs) → put_mid off k xs ys ≡ xs
   window_kept off k xs ys e = ap (put_mid off k xs) e ∙ put_same off k xs

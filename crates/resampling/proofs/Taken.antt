@@ -1,26 +1,12 @@
 -- Where the nearest pixels of a row lie, and the row of them.
-use Rattle.std.proofs.Common.{◌≡◌, ℕ, zero, suc, ◌+◌, ◌*◌, ◌/◌, ◌%◌, ◌^◌, ◌<◌, ◌≤◌, List, length, get_or, sym, ap, ◌∙◌, add-zero, mul-le-mul_right, suc-mul, mul_comm, add-mul, one-mul, mul-zero, mul-one, arith, rules}
+use Rattle.std.proofs.Common.{◌≡◌, ℕ, ◌+◌, ◌*◌, ◌/◌, ◌%◌, ◌<◌, ◌≤◌, List, length, get_or, sym, ap, ◌∙◌, add-zero, mul-le-mul_right, add-mul, one-mul, mul-one, arith, rules}
 use Rattle.std.proofs.lemmas.List.{places}
-use Rattle.std.proofs.lemmas.Nat.{div_below, mod_below, div-add-mod'}
+use Rattle.std.proofs.lemmas.Nat.{mod_below, div-add-mod'}
 use Rattle.image.specs.Rows.{part}
-use Rattle.values.specs.Nearest.{scale, nearest, nearest_row}
-use Rattle.resampling.proofs.Joined.{length_parts, joined_from}
-
--- at any number that k is, so that omega takes it as an unknown
-below : (n m x k : ℕ) → x < m → 0 < n → k * m ≤ n * 2 ^ 32 → x * k + k / 2 < n * 2 ^ 32
-below n m x zero h p q = omega (arith, mul-zero x)
-below n m x (suc j) h p q = let k = suc j in omega (arith, mul-le-mul_right k h, suc-mul x k, mul_comm k m)
-
-scale_times : (n m : ℕ) → scale n m * m ≤ n * 2 ^ 32
-scale_times n m = omega (arith, div-add-mod' (n * 2 ^ 32) m)
-
--- the place in the source, in parts of 2^32, lies within it
-fixed_below : (n m x : ℕ) → x < m → 0 < n → x * scale n m + scale n m / 2 < n * 2 ^ 32
-fixed_below n m x h p = below n m x (scale n m) h p (scale_times n m)
-
-pub nearest_below : (n m x : ℕ) → x < m → 0 < n → nearest n m x < n
-unfolding nearest
-nearest_below n m x h p = div_below (x * scale n m + scale n m / 2) (2 ^ 32) n (omega arith) (fixed_below n m x h p)
+use Rattle.values.specs.Nearest.{nearest, nearest_row}
+use Rattle.values.proofs.Shapes.{length_parts}
+use Rattle.values.proofs.Within.{nearest_below}
+use Rattle.resampling.proofs.Joined.{joined_from}
 
 module _ {X : Type 0} where
   -- each pixel that is taken lies within the row

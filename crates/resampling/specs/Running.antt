@@ -1,11 +1,17 @@
 -- What the engine counts on when it runs stages, and what lies in the halves between them.
 use Rattle.std.specs.Prelude.{◌≡◌, ℕ, ◌*◌, ◌<◌, ◌≤◌, Bool, true, List, [], ◌∷◌}
 use Rattle.image.specs.Rows.{rows}
+use Rattle.image.specs.declared.source_rows.SourceRows.{SourceRows}
 use Rattle.image.specs.declared.image_size.ImageSize.{ImageSize}
 use Rattle.planner.specs.declared.stage.Stage.{Stage}
 use Rattle.planner.specs.Chains.{WellSized}
 use Rattle.planner.specs.Plans.{needs_kernel, work_by, area}
 use Rattle.resampling.specs.declared.multi_step_plan.Settings.{Settings}
+
+-- the rows of an image of a size
+pub record RowsOf {T : Type 0} (c : ℕ) (s : ImageSize) (r : SourceRows T) : Type 0 where
+  pub width : r.row_length ≡ s.width * c
+  pub height : r.height ≡ s.height
 
 -- a stage may run by these settings with a work buffer of so many elements
 pub record Runnable (deep : Bool) (o : Settings) (work : ℕ) (st : Stage) : Type 0 where

@@ -1,7 +1,7 @@
--- What a stage's run makes of the rows of a buffer, and what it leaves in its destination.
+-- What a stage's run makes of an image, and what it leaves in its destination.
 use Rattle.std.specs.Prelude.{ℕ, List}
-use Rattle.image.specs.Rows.{rows, row, painted}
-use Rattle.convolution.specs.Meaning.{Meaning, source_row, column_value}
+use Rattle.image.specs.Rows.{row, painted}
+use Rattle.convolution.specs.Meaning.{Meaning, column_value}
 use Rattle.convolution.specs.declared.convolution.ConvolutionOptions.{ConvolutionOptions}
 use Rattle.planner.specs.Plans.{both_work}
 use Rattle.planner.specs.declared.scaler.Route.{Route}
@@ -18,10 +18,10 @@ told k o = record { kind = k; function = o.function; source = o.src_size; target
 abbrev pub run_work : Route → ConvolutionOptions → ℕ
 run_work r o = both_work r o.channels (told Both o)
 
-module _ {E : Type 0} (m : Meaning E) (o : ConvolutionOptions) (src : List E) (stride : ℕ) where
+module _ {E : Type 0} (m : Meaning E) (o : ConvolutionOptions) (im : List (List E)) where
   -- the image that a stage makes
   abbrev pub stage_image : StageKind → List (List E)
-  stage_image k = stage_value m o.channels o.bit_depth (told k o) (rows src (source_row o) stride o.src_size.height)
+  stage_image k = stage_value m o.channels o.bit_depth (told k o) im
 
   -- the destination after it
   abbrev pub stage_painted : StageKind → List E → ℕ → List E
@@ -29,4 +29,4 @@ module _ {E : Type 0} (m : Meaning E) (o : ConvolutionOptions) (src : List E) (s
 
   -- row y of a stage on both axes: the row value of the column value
   abbrev pub both_row : ℕ → List E
-  both_row y = m.across o.function o.channels (column_value m o src stride y) o.dst_size.width o.bit_depth
+  both_row y = m.across o.function o.channels (column_value m o im y) o.dst_size.width o.bit_depth

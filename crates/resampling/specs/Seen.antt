@@ -2,7 +2,7 @@
 use Rattle.std.specs.Prelude.{List}
 use Rattle.image.specs.declared.image_store.ImageStore.{ImageStore}
 use Rattle.image.specs.declared.image_store.ImageStoreMut.{ImageStoreMut}
-use Rattle.image.specs.Stores.{numbers, elements, numbers_mut, elements_mut}
+use Rattle.image.specs.Stores.{elements, elements_mut}
 use Rattle.convolution.specs.Meaning.{Meaning}
 use Rattle.planner.specs.declared.plan.ResamplingPlan.{ResamplingPlan}
 use Rattle.history.specs.Calls.{Store, Request, Window, Call}
@@ -13,10 +13,10 @@ module _ {T F : Type 0} where
 
 module _ {T : Type 0} where
   abbrev pub sheet_of : ImageStoreMut T → Store T
-  sheet_of s = record { numbers = numbers_mut s; elements = elements_mut s }
+  sheet_of s = record { numbers = s.numbers; elements = elements_mut s }
 
   abbrev pub source_of : ImageStore T → Store T
-  source_of s = record { numbers = numbers s; elements = elements s }
+  source_of s = record { numbers = s.numbers; elements = elements s }
 
 -- a call with its family's meaning, plan, window, source, work buffer and halves
 abbrev pub call_of : {T F : Type 0} → Meaning T → ResamplingPlan T F → Window → ImageStore T → List T → List T → List T → Call T

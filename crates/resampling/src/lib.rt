@@ -5,7 +5,7 @@ pub mod multi_step_plan;
 pub mod nearest_plan;
 pub mod non_alpha_plan;
 pub mod resample;
-pub mod strides;
+pub mod scale;
 pub mod trampoline_filtering;
 
 pub use nearest_plan::resample_nearest;

@@ -1,21 +1,20 @@
 // Chains: the first stage writes the first half, each later one the other half, the last the destination.
+// A destination stays a slice and its stride: a struct that held the `&mut` would owe in every contract that it is the lent one.
 ghost use Rattle.std.specs.Prelude.{◌≡◌, ℕ, ◌+◌, ◌-◌, ◌*◌, ◌<◌, ◌≤◌, true, false, not, [], ◌∷◌, ◌++◌, length, take, if◌then◌else◌};
-ghost use Rattle.image.specs.Rows.{rows, row, painted};
+ghost use Rattle.image.specs.Images.{image_of};
+ghost use Rattle.image.specs.Rows.{RowsFit, row, painted};
 ghost use Rattle.image.specs.declared.image_size.ImageSize.{ImageSize};
-ghost use Rattle.image.specs.Rows.{RowsFit};
-ghost use Rattle.convolution.specs.Meaning.{Dimension};
 ghost use Rattle.planner.specs.Chains.{Linked, Dimensions};
 ghost use Rattle.planner.specs.Plans.{area};
 ghost use Rattle.planner.specs.Plan.{plan_stages, plan_work, plan_half};
 ghost use Rattle.sampler.specs.Functions.{is_nearest};
 ghost use Rattle.values.specs.Values.{stage_value, composed};
-ghost use Rattle.resampling.specs.Running.{Runnable, AllRunnable, Roomy, packed, end_of};
+ghost use Rattle.resampling.specs.Running.{RowsOf, Runnable, AllRunnable, Roomy, packed, end_of};
 
 use crate::nearest_plan::nearest_rows;
 use crate::non_alpha_plan::{both_axes_convolve, horizontal_convolve, vertical_convolve};
-use crate::strides::row_start;
 use convolution::{ConvolutionOptions, KernelFamily};
-use image::{Element, ImageSize};
+use image::{Element, ImageSize, SourceRows};
 use planner::{ResamplingPlan, Route, Stage, StageKind};
 
 // How the stages of a plan run: its route, its channels and the destination's depth.
@@ -26,23 +25,16 @@ pub(crate) struct Settings {
     pub(crate) depth: usize,
 }
 
-// A stage between equal sizes: `height` rows of `n` elements as they are, and no gap.
-fn copy_rows<T: Element>(
-    src: &[T],
-    src_stride: usize,
-    dst: &mut [T],
-    dst_stride: usize,
-    n: usize,
-    height: usize,
-)
-    requires source { RowsFit n src_stride height (length src.now) }
-    requires target { RowsFit n dst_stride height (length dst.old) }
-    ensures { dst.new ≡ painted dst.old dst_stride (row (rows src.now n src_stride height)) height }
+// A stage between equal sizes, and no gap. (That of `image` is its own: a public function would ask nothing of its callers.)
+#[tactic(auto, using(image::proofs::Paint::painted_none, image::proofs::Strides::row_fits))]
+fn copy_rows<T: Element>(src: &SourceRows<'_, T>, dst: &mut [T], dst_stride: usize)
+    requires { RowsFit src.now.row_length dst_stride src.now.height (length dst.old) }
+    ensures { dst.new ≡ painted dst.old dst_stride (row (image_of src.now)) src.now.height }
 {
-    for y in 0..height {
-        let from = row_start(src, y, src_stride, height, n);
-        let to = row_start(dst, y, dst_stride, height, n);
-        dst[to..to + n].copy_from_slice(&src[from..from + n]);
+    let n = src.row_length;
+    for y in 0..src.height {
+        let to = y * dst_stride;
+        dst[to..to + n].copy_from_slice(src.row(y));
     }
 }
 
@@ -51,52 +43,41 @@ pub(crate) fn run_stage<T: Element, F: KernelFamily<T>>(
     family: &F,
     settings: Settings,
     stage: Stage,
-    src: &[T],
-    src_stride: usize,
+    src: &SourceRows<'_, T>,
     work: &mut [T],
     dst: &mut [T],
     dst_stride: usize,
 )
     requires ready { Runnable T.Element.NEEDS_DEPTH settings (length work.old) stage }
-    requires source { RowsFit (stage.source.width * settings.channels) src_stride stage.source.height (length src.now) }
+    requires source { RowsOf settings.channels stage.source src.now }
     requires target { RowsFit (stage.target.width * settings.channels) dst_stride stage.target.height (length dst.old) }
-    ensures { dst.new ≡ painted dst.old dst_stride (row (stage_value (F.KernelFamily.meaning family.now) settings.channels settings.depth stage (rows src.now (stage.source.width * settings.channels) src_stride stage.source.height))) stage.target.height }
+    ensures { dst.new ≡ painted dst.old dst_stride (row (stage_value (F.KernelFamily.meaning family.now) settings.channels settings.depth stage (image_of src.now))) stage.target.height }
 {
+    let channels = settings.channels;
     let options = ConvolutionOptions {
         function: stage.function,
-        channels: settings.channels,
+        channels,
         src_size: stage.source,
         dst_size: stage.target,
         bit_depth: settings.depth,
     };
     match stage.kind {
-        StageKind::Copied => copy_rows(
-            src,
-            src_stride,
-            dst,
-            dst_stride,
-            stage.source.width * settings.channels,
-            stage.source.height,
-        ),
+        StageKind::Copied => copy_rows(src, dst, dst_stride),
         StageKind::Sampled => nearest_rows(
-            src,
-            src_stride,
+            channels,
             stage.source,
+            stage.target,
+            src,
             dst,
             dst_stride,
-            stage.target,
-            settings.channels,
         ),
-        StageKind::Vertical => vertical_convolve(family, options, src, src_stride, dst, dst_stride),
-        StageKind::Horizontal => horizontal_convolve(
-            family, options, src, src_stride, dst, dst_stride,
-        ),
+        StageKind::Vertical => vertical_convolve(family, options, src, dst, dst_stride),
+        StageKind::Horizontal => horizontal_convolve(family, options, src, dst, dst_stride),
         StageKind::Both => both_axes_convolve(
             settings.route,
             family,
             options,
             src,
-            src_stride,
             work,
             dst,
             dst_stride,
@@ -116,13 +97,21 @@ fn written<'a, T>(first: &'a [T], second: &'a [T], flipped: bool, len: usize) ->
     }
 }
 
-// The elements of an image without gaps.
-fn elements(size: ImageSize, channels: usize) -> usize
+// The image without gaps that a half begins with.
+fn packed_rows<'a, T>(half: &'a [T], size: ImageSize, channels: usize) -> SourceRows<'a, T>
     requires size { Dimensions size }
     requires channels { channels ≤ 4 }
-    ensures { result ≡ area channels size }
+    requires held { area channels size ≤ length half.now }
+    ensures image { image_of result ≡ packed channels size half.now }
+    ensures rows { RowsOf channels size result }
 {
-    size.width * size.height * channels
+    let n = size.width * channels;
+    SourceRows {
+        elements: half,
+        row_length: n,
+        stride: n,
+        height: size.height,
+    }
 }
 
 // One stage from an image without gaps to another.
@@ -139,11 +128,9 @@ fn run_packed<T: Element, F: KernelFamily<T>>(
     requires target { area settings.channels stage.target ≤ length dst.old }
     ensures { packed settings.channels stage.target dst.new ≡ stage_value (F.KernelFamily.meaning family.now) settings.channels settings.depth stage (packed settings.channels stage.source src.now) }
 {
-    let src_stride = stage.source.width * settings.channels;
+    let rows = packed_rows(src, stage.source, settings.channels);
     let dst_stride = stage.target.width * settings.channels;
-    run_stage(
-        family, settings, stage, src, src_stride, work, dst, dst_stride,
-    );
+    run_stage(family, settings, stage, &rows, work, dst, dst_stride);
 }
 
 // One stage between the halves: it reads the part that was written last, and writes the other half.
@@ -169,7 +156,7 @@ fn turn<T: Element, F: KernelFamily<T>>(
 }
 
 // The middle stages of a chain, from the image of size `start` in the first half on: whether the second half was
-// written last, and the size of the image there.
+// written last.
 fn middle<T: Element, F: KernelFamily<T>>(
     family: &F,
     settings: Settings,
@@ -178,23 +165,20 @@ fn middle<T: Element, F: KernelFamily<T>>(
     first: &mut [T],
     second: &mut [T],
     work: &mut [T],
-) -> (bool, ImageSize)
+) -> bool
     requires linked { Linked start (end_of start stages.now) stages.now }
     requires ready { AllRunnable T.Element.NEEDS_DEPTH settings (length work.old) stages.now }
     requires began { (area settings.channels start ≤ length first.old) × (area settings.channels start ≤ length second.old) }
     requires room { Roomy settings.channels (length first.old) stages.now × Roomy settings.channels (length second.old) stages.now }
-    ensures value { packed settings.channels (end_of start stages.now) (if result.0 then second.new else first.new) ≡ composed (F.KernelFamily.meaning family.now) settings.channels settings.depth stages.now (packed settings.channels start first.old) }
-    ensures size { result.1 ≡ end_of start stages.now }
-    ensures room { (area settings.channels result.1 ≤ length first.old) × (area settings.channels result.1 ≤ length second.old) }
+    ensures value { packed settings.channels (end_of start stages.now) (if result then second.new else first.new) ≡ composed (F.KernelFamily.meaning family.now) settings.channels settings.depth stages.now (packed settings.channels start first.old) }
+    ensures room { (area settings.channels (end_of start stages.now) ≤ length first.old) × (area settings.channels (end_of start stages.now) ≤ length second.old) }
 {
     let mut flipped = false;
-    let mut size = start;
     for stage in stages {
         turn(family, settings, *stage, first, second, flipped, work);
         flipped = !flipped;
-        size = stage.target;
     }
-    (flipped, size)
+    flipped
 }
 
 // A chain of two stages or more.
@@ -204,8 +188,7 @@ fn run_chain<T: Element, F: KernelFamily<T>>(
     head: Stage,
     inner: &[Stage],
     tail: Stage,
-    src: &[T],
-    src_stride: usize,
+    src: &SourceRows<'_, T>,
     work: &mut [T],
     first: &mut [T],
     second: &mut [T],
@@ -216,33 +199,25 @@ fn run_chain<T: Element, F: KernelFamily<T>>(
     requires ready { Runnable T.Element.NEEDS_DEPTH settings (length work.old) head × AllRunnable T.Element.NEEDS_DEPTH settings (length work.old) inner.now × Runnable T.Element.NEEDS_DEPTH settings (length work.old) tail }
     requires first { Roomy settings.channels (length first.old) (head ∷ inner.now) }
     requires second { Roomy settings.channels (length second.old) (head ∷ inner.now) }
-    requires source { RowsFit (head.source.width * settings.channels) src_stride head.source.height (length src.now) }
+    requires source { RowsOf settings.channels head.source src.now }
     requires target { RowsFit (tail.target.width * settings.channels) dst_stride tail.target.height (length dst.old) }
-    ensures { dst.new ≡ painted dst.old dst_stride (row (composed (F.KernelFamily.meaning family.now) settings.channels settings.depth (head ∷ (inner.now ++ tail ∷ [])) (rows src.now (head.source.width * settings.channels) src_stride head.source.height))) tail.target.height }
+    ensures { dst.new ≡ painted dst.old dst_stride (row (composed (F.KernelFamily.meaning family.now) settings.channels settings.depth (head ∷ (inner.now ++ tail ∷ [])) (image_of src.now))) tail.target.height }
 {
-    let stride = head.target.width * settings.channels;
-    run_stage(family, settings, head, src, src_stride, work, first, stride);
-    let (flipped, size) = middle(family, settings, inner, head.target, first, second, work);
-    let len = elements(size, settings.channels);
-    let stride = size.width * settings.channels;
-    run_stage(
-        family,
-        settings,
-        tail,
-        written(first, second, flipped, len),
-        stride,
-        work,
-        dst,
-        dst_stride,
-    );
+    let channels = settings.channels;
+    let stride = head.target.width * channels;
+    run_stage(family, settings, head, src, work, first, stride);
+    let flipped = middle(family, settings, inner, head.target, first, second, work);
+    let len = tail.source.elements(channels);
+    let half = packed_rows(written(first, second, flipped, len), tail.source, channels);
+    run_stage(family, settings, tail, &half, work, dst, dst_stride);
 }
 
-// All the stages of a plan, from the source to the rows of the destination.
+// All the stages of a plan, from the source to the rows of the destination. (The one scratch of the Rust is three
+// buffers here, lent by the caller; a struct of them would owe their places in every contract.)
 pub(crate) fn run_plan<T: Element, F: KernelFamily<T>>(
     plan: &ResamplingPlan<T, F>,
     depth: usize,
-    src: &[T],
-    src_stride: usize,
+    src: &SourceRows<'_, T>,
     work: &mut [T],
     first: &mut [T],
     second: &mut [T],
@@ -252,42 +227,21 @@ pub(crate) fn run_plan<T: Element, F: KernelFamily<T>>(
     requires depth { is_nearest plan.now.scaler.function ≡ false → T.Element.NEEDS_DEPTH ≡ true → (1 ≤ depth) × (depth ≤ 16) }
     requires work { plan_work plan.now ≤ length work.old }
     requires halves { (plan_half plan.now ≤ length first.old) × (plan_half plan.now ≤ length second.old) }
-    requires source { RowsFit (plan.now.source_size.width * plan.now.channels) src_stride plan.now.source_size.height (length src.now) }
+    requires source { RowsOf plan.now.channels plan.now.source_size src.now }
     requires target { RowsFit (plan.now.target_size.width * plan.now.channels) dst_stride plan.now.target_size.height (length dst.old) }
-    ensures { dst.new ≡ painted dst.old dst_stride (row (composed (F.KernelFamily.meaning plan.now.family) plan.now.channels depth (plan_stages plan.now) (rows src.now (plan.now.source_size.width * plan.now.channels) src_stride plan.now.source_size.height))) plan.now.target_size.height }
+    ensures { dst.new ≡ painted dst.old dst_stride (row (composed (F.KernelFamily.meaning plan.now.family) plan.now.channels depth (plan_stages plan.now) (image_of src.now))) plan.now.target_size.height }
 {
+    let family = plan.family();
     let settings = Settings {
         route: plan.scaler().route,
         channels: plan.channels(),
         depth,
     };
     let stages = plan.stages();
-    let last = stages.len() - 1;
-    if last == 0 {
-        run_stage(
-            plan.family(),
-            settings,
-            stages[0],
-            src,
-            src_stride,
-            work,
-            dst,
-            dst_stride,
-        );
-    } else {
-        run_chain(
-            plan.family(),
-            settings,
-            stages[0],
-            &stages[1..last],
-            stages[last],
-            src,
-            src_stride,
-            work,
-            first,
-            second,
-            dst,
-            dst_stride,
-        );
+    match stages {
+        [head, inner @ .., tail] => run_chain(
+            family, settings, *head, inner, *tail, src, work, first, second, dst, dst_stride,
+        ),
+        _ => run_stage(family, settings, stages[0], src, work, dst, dst_stride),
     }
 }

@@ -1,7 +1,7 @@
 // The resample call and the window call on a sheet.
 ghost use Rattle.std.specs.Prelude.{◌≡◌, ℕ, false, not, ◌&&◌, ◌||◌, List, [], ◌∷◌, length, is_ok, if◌then◌else◌};
 ghost use Rattle.image.specs.Refusals.{reply, check, answer};
-ghost use Rattle.image.specs.Stores.{numbers, elements, numbers_mut, elements_mut, laid};
+ghost use Rattle.image.specs.Stores.{elements_mut, laid};
 ghost use Rattle.sampler.specs.Functions.{is_nearest};
 ghost use Rattle.history.specs.Calls.{Store, Window, Request, match_answer, buffer_checks, buffer_answer, resample_answer, asked, plan_value, Step};
 ghost use Rattle.history.specs.Calls.Window.{whole as entire, part as within};
@@ -10,47 +10,45 @@ ghost use Rattle.history.specs.Promise.{Promise};
 ghost use Rattle.resampling.specs.Seen.{request_of, sheet_of, call_of};
 
 use crate::multi_step_plan::run_plan;
-use crate::strides::stride_of;
 use convolution::KernelFamily;
-use image::{Element, ImageSize, ImageStore, ImageStoreMut, PicScaleError, check_part};
+use image::{Element, ImageStore, ImageStoreMut, Numbers, Part, PicScaleError};
 use planner::ResamplingPlan;
 use sampler::ResamplingFunction;
 
 // Whether a destination and a source are those of the plan.
+#[tactic(auto, unfolding(history::specs::Calls::match_answer))]
 fn check_match<T, F>(
     plan: &ResamplingPlan<T, F>,
-    dst_channels: usize,
-    dst_size: ImageSize,
-    src_channels: usize,
-    src_size: ImageSize,
+    dst: Numbers,
+    src: Numbers,
 ) -> Result<(), PicScaleError>
-    ensures { reply result ≡ match_answer (request_of plan.now) (record { channels = dst_channels; width = dst_size.width; height = dst_size.height; stride = 0; depth = 0 }) (record { channels = src_channels; width = src_size.width; height = src_size.height; stride = 0; depth = 0 }) }
+    ensures { reply result ≡ match_answer (request_of plan.now) dst src }
 {
     let channels = plan.channels();
-    if dst_channels != channels {
+    if dst.channels != channels {
         return Err(PicScaleError::ChannelMismatch {
             expected: channels,
-            channels: dst_channels,
+            channels: dst.channels,
         });
     }
-    if src_channels != channels {
+    if src.channels != channels {
         return Err(PicScaleError::ChannelMismatch {
             expected: channels,
-            channels: src_channels,
+            channels: src.channels,
         });
     }
     let source = plan.source_size();
-    if src_size != source {
+    if src.size() != source {
         return Err(PicScaleError::InvalidSourceSize {
             expected: source,
-            size: src_size,
+            size: src.size(),
         });
     }
     let target = plan.target_size();
-    if dst_size != target {
+    if dst.size() != target {
         return Err(PicScaleError::InvalidDestinationSize {
             expected: target,
-            size: dst_size,
+            size: dst.size(),
         });
     }
     Ok(())
@@ -100,6 +98,7 @@ fn check_buffers<T: Element, F>(
 }
 
 // A resample into any destination, the whole of it: the answer, and the plan's value in its rows where it is granted.
+#[tactic(auto, unfolding(history::specs::Calls::match_answer))]
 fn resample_store<T: Element, F: KernelFamily<T>>(
     plan: &ResamplingPlan<T, F>,
     source: &ImageStore<'_, T>,
@@ -108,40 +107,29 @@ fn resample_store<T: Element, F: KernelFamily<T>>(
     first: &mut [T],
     second: &mut [T],
 ) -> Result<(), PicScaleError>
-    ensures reply { reply result ≡ resample_answer T.Element.BYTES T.Element.NEEDS_DEPTH (asked (call_of (F.KernelFamily.meaning plan.now.family) plan.now entire source.now work.old first.old second.old) (numbers_mut into.old) (length (elements_mut into.old))) (numbers_mut into.old) (length (elements_mut into.old)) }
-    ensures same { numbers_mut into.new ≡ numbers_mut into.old }
+    ensures reply { reply result ≡ resample_answer T.Element.BYTES T.Element.NEEDS_DEPTH (asked (call_of (F.KernelFamily.meaning plan.now.family) plan.now entire source.now work.old first.old second.old) into.old.numbers (length (elements_mut into.old))) into.old.numbers (length (elements_mut into.old)) }
+    ensures same { into.new.numbers ≡ into.old.numbers }
     ensures place { into.new.buffer.ghost_name ≡ into.old.buffer.ghost_name }
-    ensures after { elements_mut into.new ≡ (if is_ok result then laid (numbers_mut into.old) (plan_value (call_of (F.KernelFamily.meaning plan.now.family) plan.now entire source.now work.old first.old second.old) into.old.bit_depth) (elements_mut into.old) else elements_mut into.old) }
+    ensures after { elements_mut into.new ≡ (if is_ok result then laid into.old.numbers (plan_value (call_of (F.KernelFamily.meaning plan.now.family) plan.now entire source.now work.old first.old second.old) into.old.numbers.bit_depth) (elements_mut into.old) else elements_mut into.old) }
     ensures kept { is_ok result ≡ false → (work.new ≡ work.old) × (first.new ≡ first.old) × (second.new ≡ second.old) }
 {
     into.validate()?;
-    source.validate()?;
-    let into_size = ImageSize {
-        width: into.width,
-        height: into.height,
-    };
-    let size = ImageSize {
-        width: source.width,
-        height: source.height,
-    };
-    check_match(plan, into.channels, into_size, source.channels, size)?;
-    if size == into_size {
+    let rows = source.rows()?;
+    check_match(plan, into.numbers, source.numbers)?;
+    if source.numbers.size() == into.numbers.size() {
         return source.copied_to_mut(into);
     }
-    let depth = into.bit_depth;
+    let depth = into.numbers.bit_depth;
     check_buffers(plan, depth, work.len(), first.len(), second.len())?;
-    let dst_stride = stride_of(into.channels, into.width, into.stride);
-    let src_stride = stride_of(source.channels, source.width, source.stride);
     run_plan(
         plan,
         depth,
-        source.buffer,
-        src_stride,
+        &rows,
         work,
         first,
         second,
         into.buffer,
-        dst_stride,
+        into.numbers.pitch(),
     );
     Ok(())
 }
@@ -160,8 +148,8 @@ pub fn resample_with_scratch<T: Element, F: KernelFamily<T>>(
     ensures past { (made : Store T) (es : List (Entry T)) → Past T.Element.BYTES T.Element.NEEDS_DEPTH made es (sheet_of sheet.old) → Past T.Element.BYTES T.Element.NEEDS_DEPTH made (record { call = call_of (F.KernelFamily.meaning plan.now.family) plan.now entire source.now work.old first.old second.old; answer = reply result } ∷ es) (sheet_of sheet.new) }
     ensures upheld { (made : Store T) (es : List (Entry T)) → Past T.Element.BYTES T.Element.NEEDS_DEPTH made es (sheet_of sheet.old) → Upheld T.Element.BYTES T.Element.NEEDS_DEPTH made (record { call = call_of (F.KernelFamily.meaning plan.now.family) plan.now entire source.now work.old first.old second.old; answer = reply result } ∷ es) (sheet_of sheet.new) }
     ensures promise { Promise T }
-    ensures after { elements_mut sheet.new ≡ (if is_ok result then laid (numbers_mut sheet.old) (plan_value (call_of (F.KernelFamily.meaning plan.now.family) plan.now entire source.now work.old first.old second.old) sheet.old.bit_depth) (elements_mut sheet.old) else elements_mut sheet.old) }
-    ensures same { numbers_mut sheet.new ≡ numbers_mut sheet.old }
+    ensures after { elements_mut sheet.new ≡ (if is_ok result then laid sheet.old.numbers (plan_value (call_of (F.KernelFamily.meaning plan.now.family) plan.now entire source.now work.old first.old second.old) sheet.old.numbers.bit_depth) (elements_mut sheet.old) else elements_mut sheet.old) }
+    ensures same { sheet.new.numbers ≡ sheet.old.numbers }
     ensures place { sheet.new.buffer.ghost_name ≡ sheet.old.buffer.ghost_name }
     ensures kept { is_ok result ≡ false → (work.new ≡ work.old) × (first.new ≡ first.old) × (second.new ≡ second.old) }
 {
@@ -173,65 +161,45 @@ fn resample_part<T: Element, F: KernelFamily<T>>(
     plan: &ResamplingPlan<T, F>,
     source: &ImageStore<'_, T>,
     buffer: &mut [T],
-    channels: usize,
-    width: usize,
-    height: usize,
-    stride: usize,
-    bit_depth: usize,
+    numbers: Numbers,
     work: &mut [T],
     first: &mut [T],
     second: &mut [T],
 ) -> Result<(), PicScaleError>
-    ensures reply { reply result ≡ resample_answer T.Element.BYTES T.Element.NEEDS_DEPTH (asked (call_of (F.KernelFamily.meaning plan.now.family) plan.now entire source.now work.old first.old second.old) (record { channels = channels; width = width; height = height; stride = stride; depth = bit_depth }) (length buffer.old)) (record { channels = channels; width = width; height = height; stride = stride; depth = bit_depth }) (length buffer.old) }
-    ensures after { buffer.new ≡ (if is_ok result then laid (record { channels = channels; width = width; height = height; stride = stride; depth = bit_depth }) (plan_value (call_of (F.KernelFamily.meaning plan.now.family) plan.now entire source.now work.old first.old second.old) bit_depth) buffer.old else buffer.old) }
+    ensures reply { reply result ≡ resample_answer T.Element.BYTES T.Element.NEEDS_DEPTH (asked (call_of (F.KernelFamily.meaning plan.now.family) plan.now entire source.now work.old first.old second.old) numbers (length buffer.old)) numbers (length buffer.old) }
+    ensures after { buffer.new ≡ (if is_ok result then laid numbers (plan_value (call_of (F.KernelFamily.meaning plan.now.family) plan.now entire source.now work.old first.old second.old) numbers.bit_depth) buffer.old else buffer.old) }
     ensures kept { is_ok result ≡ false → (work.new ≡ work.old) × (first.new ≡ first.old) × (second.new ≡ second.old) }
 {
-    let mut window = ImageStoreMut {
-        buffer,
-        channels,
-        width,
-        height,
-        stride,
-        bit_depth,
-    };
+    let mut window = ImageStoreMut { buffer, numbers };
     resample_store(plan, source, &mut window, work, first, second)
 }
 
-// Resamples a source by a plan into a window of a sheet, `width` by `height` pixels from column `x` of row `y` on.
+// Resamples a source by a plan into a window of a sheet.
 pub fn resample_window<T: Element, F: KernelFamily<T>>(
     plan: &ResamplingPlan<T, F>,
     source: &ImageStore<'_, T>,
     sheet: &mut ImageStoreMut<'_, T>,
-    x: usize,
-    y: usize,
-    width: usize,
-    height: usize,
+    part: Part,
     work: &mut [T],
     first: &mut [T],
     second: &mut [T],
 ) -> Result<(), PicScaleError>
-    ensures step { Step T.Element.BYTES T.Element.NEEDS_DEPTH (call_of (F.KernelFamily.meaning plan.now.family) plan.now (within x y width height) source.now work.old first.old second.old) (sheet_of sheet.old) (reply result) (sheet_of sheet.new) }
-    ensures past { (made : Store T) (es : List (Entry T)) → Past T.Element.BYTES T.Element.NEEDS_DEPTH made es (sheet_of sheet.old) → Past T.Element.BYTES T.Element.NEEDS_DEPTH made (record { call = call_of (F.KernelFamily.meaning plan.now.family) plan.now (within x y width height) source.now work.old first.old second.old; answer = reply result } ∷ es) (sheet_of sheet.new) }
-    ensures upheld { (made : Store T) (es : List (Entry T)) → Past T.Element.BYTES T.Element.NEEDS_DEPTH made es (sheet_of sheet.old) → Upheld T.Element.BYTES T.Element.NEEDS_DEPTH made (record { call = call_of (F.KernelFamily.meaning plan.now.family) plan.now (within x y width height) source.now work.old first.old second.old; answer = reply result } ∷ es) (sheet_of sheet.new) }
+    ensures step { Step T.Element.BYTES T.Element.NEEDS_DEPTH (call_of (F.KernelFamily.meaning plan.now.family) plan.now (within part.x part.y part.width part.height) source.now work.old first.old second.old) (sheet_of sheet.old) (reply result) (sheet_of sheet.new) }
+    ensures past { (made : Store T) (es : List (Entry T)) → Past T.Element.BYTES T.Element.NEEDS_DEPTH made es (sheet_of sheet.old) → Past T.Element.BYTES T.Element.NEEDS_DEPTH made (record { call = call_of (F.KernelFamily.meaning plan.now.family) plan.now (within part.x part.y part.width part.height) source.now work.old first.old second.old; answer = reply result } ∷ es) (sheet_of sheet.new) }
+    ensures upheld { (made : Store T) (es : List (Entry T)) → Past T.Element.BYTES T.Element.NEEDS_DEPTH made es (sheet_of sheet.old) → Upheld T.Element.BYTES T.Element.NEEDS_DEPTH made (record { call = call_of (F.KernelFamily.meaning plan.now.family) plan.now (within part.x part.y part.width part.height) source.now work.old first.old second.old; answer = reply result } ∷ es) (sheet_of sheet.new) }
     ensures promise { Promise T }
     ensures place { sheet.new.buffer.ghost_name ≡ sheet.old.buffer.ghost_name }
     ensures kept { is_ok result ≡ false → (work.new ≡ work.old) × (first.new ≡ first.old) × (second.new ≡ second.old) }
 {
     sheet.validate()?;
-    check_part(x, y, width, height, sheet.width, sheet.height)?;
-    let channels = sheet.channels;
-    let stride = stride_of(channels, sheet.width, sheet.stride);
-    let bit_depth = sheet.bit_depth;
-    let offset = y * stride + x * channels;
+    part.check(sheet.numbers.size())?;
+    let numbers = sheet.numbers.part(part);
+    let offset = part.y * numbers.stride + part.x * numbers.channels;
     resample_part(
         plan,
         source,
         &mut sheet.buffer[offset..],
-        channels,
-        width,
-        height,
-        stride,
-        bit_depth,
+        numbers,
         work,
         first,
         second,

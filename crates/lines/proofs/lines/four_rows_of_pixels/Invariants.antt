@@ -1,14 +1,9 @@
-use Rattle.std.proofs.Common.{◌≡◌, ◌*◌}
+use Rattle.std.proofs.Common.{◌≡◌}
 use Rattle.image.specs.Rows.{row, joined, painted}
 use Rattle.image.specs.Images.{image_of}
 use Rattle.lines.specs.Along.{pixel}
-use Rattle.lines.proofs.Grown.{shifted}
 use Rattle.lines.proofs.lines.four_rows_of_pixels.Given as goal
 
 abbrev pub invariant-loop-x : goal.invariant-loop-x
 invariant-loop-x g l =
     l.dst ≡ painted l.initial.dst l.dst_stride (λ i. joined (pixel g.K.LineKernel.value (row (image_of l.src) i) g.row.N l.axis.source l.axis.target) l.x) 4
-
-abbrev pub invariant-loop-i : goal.invariant-loop-i
-invariant-loop-i g l =
-    l.dst ≡ shifted l.initial.dst (l.x * g.row.N) l.dst_stride (λ i. pixel g.K.LineKernel.value (row (image_of l.src) i) g.row.N l.axis.source l.axis.target l.x) l.i

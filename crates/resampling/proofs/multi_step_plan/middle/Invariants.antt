@@ -1,4 +1,4 @@
-use Rattle.std.proofs.Common.{◌≡◌, ◌≤◌, cond, length, drop}
+use Rattle.std.proofs.Common.{◌≡◌, ◌≤◌, cond, length, take, drop}
 use Rattle.planner.specs.Chains.{Linked}
 use Rattle.planner.specs.Plans.{area}
 use Rattle.values.specs.Values.{composed}
@@ -9,11 +9,11 @@ use Rattle.resampling.proofs.multi_step_plan.middle.Given as goal
 abbrev pub invariant-loop-stage : goal.invariant-loop-stage
 invariant-loop-stage g l =
     let left = drop l.stage-index l.stages in
+    let size = end_of l.fn.start (take l.stage-index l.stages) in
     let c = l.settings.channels in
     let m = g.F.KernelFamily.meaning l.family in
-    Linked l.size (end_of l.initial.size l.stages) left
-    × (end_of l.size left ≡ end_of l.initial.size l.stages)
-    × ((area c l.size ≤ length l.first) × (area c l.size ≤ length l.second))
+    Linked size (end_of l.fn.start l.stages) left
+    × ((area c size ≤ length l.first) × (area c size ≤ length l.second))
     × AllRunnable g.T.Element.NEEDS_DEPTH l.settings (length l.work) left
     × (Roomy c (length l.first) left × Roomy c (length l.second) left)
-    × (composed m c l.settings.depth left (packed c l.size (cond l.flipped l.second l.first)) ≡ composed m c l.settings.depth l.stages (packed c l.initial.size l.initial.first))
+    × (composed m c l.settings.depth left (packed c size (cond l.flipped l.second l.first)) ≡ composed m c l.settings.depth l.stages (packed c l.fn.start l.initial.first))

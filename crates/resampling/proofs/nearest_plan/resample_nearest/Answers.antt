@@ -1,53 +1,45 @@
-use Rattle.std.proofs.Common.{length, sym, refl, ◌∙◌, rules}
-use Rattle.image.specs.Stores.{numbers, elements, numbers_mut, elements_mut}
-use Rattle.image.proofs.Granted.{source_sound, target_sound, joined_granted}
-use Rattle.values.specs.Nearest.{between_answer}
-use Rattle.resampling.proofs.Sampled.{between, sampled, sampled_on}
+use Rattle.std.proofs.Common.{◌≡◌, sym, refl, ◌∙◌}
+use Rattle.image.specs.Rows.{row, painted}
+use Rattle.image.specs.Stores.{elements, elements_mut, laid}
+use Rattle.image.proofs.Granted.{source_sound, target_sound, exact_pitch}
+use Rattle.image.proofs.Copied.{laid_by}
+use Rattle.values.specs.Nearest.{nearest_image, nearest_pixels}
+use Rattle.resampling.proofs.Sampled.{between, sampled_on}
+use Rattle.resampling.proofs.nearest_plan.resample_nearest.Given.{Over}
 use Rattle.resampling.proofs.nearest_plan.resample_nearest.Goals as goal
 
-pub returns : goal.returns
-unfolding between_answer
-returns g c =
-    let d = numbers_mut c.args.into.now in
-    let s = numbers c.args.source.now in
-    let xs = elements_mut c.args.into.now in
-    let src = elements c.args.source.now in
-    let a = target_sound g.T.Element.BYTES d (length xs) c.in_ok-validate.ensures in
-    let b = source_sound g.T.Element.BYTES s (length src) c.in_ok-validate-2.ensures in
-    let m = between d s c.in_ok-check_between.ensures in
-    let after = c.nearest_rows.ensures ∙ sampled d s xs src _ _ c.stride_of-dst_stride.ensures c.stride_of-src_stride.ensures in
-    record {
-      reply = joined_granted _ _ c.in_ok-validate.ensures (joined_granted _ _ c.in_ok-validate-2.ensures c.in_ok-check_between.ensures);
-      same = refl;
-      place = refl;
-      after = after;
-      shown = sampled_on d s xs src _ a b m after;
-    }
+pub nearest_rows-requires-clause-channels : goal.nearest_rows-requires-clause-channels
+nearest_rows-requires-clause-channels g c = let b = source_sound _ _ _ c.in_ok-rows.ensures.reply in (b.some_channels, b.few_channels)
 
-pub returns-in_err-check_between : goal.returns-in_err-check_between
-unfolding between_answer
-returns-in_err-check_between g c = search rules
+pub nearest_rows-requires-clause-sizes : goal.nearest_rows-requires-clause-sizes
+nearest_rows-requires-clause-sizes g c =
+    let a = target_sound _ _ _ c.in_ok-validate.ensures in
+    let b = source_sound _ _ _ c.in_ok-rows.ensures.reply in
+    let m = between c.args.into.now.numbers c.args.source.now.numbers c.in_ok-check_between.ensures in
+    rw (c.size.ensures, c.size-2.ensures) (((b.some_width, m.source_width), (b.some_height, m.source_height)), ((a.some_width, m.target_width), (a.some_height, m.target_height)))
 
-pub stride_of-dst_stride-requires : goal.stride_of-dst_stride-requires
-stride_of-dst_stride-requires g c = let f = (target_sound _ _ _ c.in_ok-validate.ensures).fits in search rules
+pub nearest_rows-requires-clause-written : goal.nearest_rows-requires-clause-written
+nearest_rows-requires-clause-written g c =
+    let d = c.args.into.now.numbers in
+    let a = target_sound _ _ _ c.in_ok-validate.ensures in
+    let m = between d c.args.source.now.numbers c.in_ok-check_between.ensures in
+    let e = exact_pitch d _ _ a c.pitch.ensures in
+    rw (e, c.size-2.ensures, sym m.channels) (record { apart = a.wide; within = a.fits })
 
-pub stride_of-src_stride-requires : goal.stride_of-src_stride-requires
-stride_of-src_stride-requires g c = let f = (source_sound _ _ _ c.in_ok-validate-2.ensures).fits in search rules
+after : (g : Over) (c : goal.After-nearest_rows g) → c.nearest_rows.new.dst ≡ laid c.args.into.now.numbers (nearest_pixels c.args.into.now.numbers c.args.source.now.numbers (elements c.args.source.now)) (elements_mut c.args.into.now)
+after g c =
+    let d = c.args.into.now.numbers in
+    let s = c.args.source.now.numbers in
+    let a = target_sound _ _ _ c.in_ok-validate.ensures in
+    c.nearest_rows.ensures
+    ∙ (λ i. painted (elements_mut c.args.into.now) c.pitch.result (row (nearest_image s.channels (c.size.ensures i) (c.size-2.ensures i) (c.in_ok-rows.ensures.image i))) (c.size-2.ensures i).height)
+    ∙ laid_by d _ _ _ _ (exact_pitch d _ _ a c.pitch.ensures) refl
 
-pub nearest_rows-requires : goal.nearest_rows-requires
-unfolding between_answer
-nearest_rows-requires g c =
-    let d = numbers_mut c.args.into.now in
-    let s = numbers c.args.source.now in
-    let xs = elements_mut c.args.into.now in
-    let src = elements c.args.source.now in
-    let a = target_sound g.T.Element.BYTES d (length xs) c.in_ok-validate.ensures in
-    let b = source_sound g.T.Element.BYTES s (length src) c.in_ok-validate-2.ensures in
-    let m = between d s c.in_ok-check_between.ensures in
-    record {
-      channels = (b.some_channels, b.few_channels);
-      source = ((b.some_width, m.source_width), (b.some_height, m.source_height));
-      target = ((a.some_width, m.target_width), (a.some_height, m.target_height));
-      read = rw c.stride_of-src_stride.ensures (record { apart = b.wide; within = b.fits });
-      written = rw (c.stride_of-dst_stride.ensures, sym m.channels) (record { apart = a.wide; within = a.fits });
-    }
+pub returns-clause-after : goal.returns-clause-after
+returns-clause-after g c = after g c
+
+pub returns-clause-shown : goal.returns-clause-shown
+returns-clause-shown g c =
+    let d = c.args.into.now.numbers in
+    let s = c.args.source.now.numbers in
+    sampled_on d s _ _ _ (target_sound _ _ _ c.in_ok-validate.ensures) (source_sound _ _ _ c.in_ok-rows.ensures.reply) (between d s c.in_ok-check_between.ensures) (after g c)

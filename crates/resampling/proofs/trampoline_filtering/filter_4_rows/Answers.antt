@@ -1,16 +1,20 @@
-use Rattle.std.proofs.Common.{◌+◌, ◌∙◌}
-use Rattle.image.proofs.RowsOf.{painted_same}
+use Rattle.std.proofs.Common.{◌+◌, length, ap, ◌∙◌, arith}
+use Rattle.image.specs.Images.{image_of}
+use Rattle.image.specs.Rows.{rows, painted}
 use Rattle.convolution.specs.Meaning.{source_row, row_value}
-use Rattle.resampling.specs.Runs.{both_row}
-use Rattle.resampling.proofs.Runs.{packed_rows}
+use Rattle.resampling.proofs.Packed.{gapless, source_sized}
+use Rattle.resampling.proofs.Runs.{across_packed}
 use Rattle.resampling.proofs.trampoline_filtering.filter_4_rows.Goals as goal
 
 pub returns : goal.returns
 returns g c =
     let o = c.args.options in
-    let m = g.F.KernelFamily.meaning c.args.family.now in
+    let n = source_row o in
     let src = c.args.src.now in
-    let s = c.args.src_stride in
-    let same = packed_rows m o src s (g.met.F.KernelFamily.shaped c.args.family.now) c.requires.ready.source_height.0 c.requires.source (λ i. c.args.y + i) c.args.work.now c.run_on_4_columns.new.work 4 c.run_on_4_columns.ensures c.requires.work in
+    let m = g.F.KernelFamily.meaning c.args.family.now in
+    let t = c.args.dst_stride in
+    let even = source_sized src n o.src_size.height c.requires.source.width c.requires.source.height in
+    let zs = c.run_on_4_columns.new.work in
     c.run_on_4_rows.ensures
-    ∙ painted_same c.args.dst.now c.args.dst_stride (row_value m o c.run_on_4_columns.new.work (source_row o)) (λ i. both_row m o src s (c.args.y + i)) 4 same
+    ∙ (ap (λ k. painted c.args.dst.now t (row_value m o (rows zs k k 4)) 4) c.requires.source.width
+    ∙ across_packed m o (image_of src) (g.met.F.KernelFamily.shaped c.args.family.now) c.requires.ready.source_height.0 even (λ i. c.args.y + i) c.args.work.now zs c.args.dst.now t 4 c.run_on_4_columns.ensures (gapless n 4 (length c.args.work.now) (omega arith) c.requires.work))

@@ -1,11 +1,13 @@
 use Rattle.std.proofs.Common.{◌≡◌, ℕ, ◌+◌, ◌-◌, ◌*◌, ◌<◌, ◌≤◌, cond, ltb, length, refl, ap, ◌∙◌, mul-le-mul_right, add-mul, arith, length-drop, length-take, rules}
 use Rattle.std.proofs.lemmas.Bool.Decides.{nat_tests}
+use Rattle.image.specs.Images.{image_of}
 use Rattle.image.specs.Rows.{painted}
-use Rattle.image.proofs.Paint.{painted_none, painted_more}
+use Rattle.image.proofs.Paint.{painted_more}
 use Rattle.image.proofs.Painted.{painted_batch}
 use Rattle.image.proofs.Strides.{row_fits}
 use Rattle.convolution.specs.Meaning.{source_row, target_row}
 use Rattle.resampling.specs.Runs.{both_row}
+use Rattle.resampling.proofs.Packed.{source_sized}
 use Rattle.resampling.proofs.Runs.{both_run, both_even}
 use Rattle.resampling.proofs.trampoline_filtering.trampoline_filter.Goals as goal
 
@@ -23,47 +25,56 @@ four_rows n h size l fits =
     let e : ◌≡◌ {A = ℕ} (cond (ltb h 4) 1 4) 4 = grind (arith, nat_tests) in
     omega (arith, ap (λ (z : ℕ). n * z) e)
 
-pub loop-y-init : goal.loop-y-init
-loop-y-init g c = (omega arith, painted_none _ _ _)
-
-pub filter_4_rows-requires : goal.filter_4_rows-requires
-filter_4_rows-requires g c =
+pub filter_4_rows-requires-clause-target : goal.filter_4_rows-requires-clause-target
+filter_4_rows-requires-clause-target g c =
     let o = c.args.options in
     let t = c.args.dst_stride in
-    let h = o.dst_size.height in
-    let far = last_of_four c.loop-y.y h t (target_row o) (length c.loop-y.dst) (omega arith) (omega arith) in
-    record {
-      ready = c.requires.ready;
-      source = c.requires.source;
-      batch = omega arith;
-      work = omega (arith, four_rows (source_row o) h (length c.args.work.now) (omega arith) c.requires.work);
-      target = record { apart = c.requires.target.apart; within = simp (length-take, length-drop) (omega (arith, c.row_start-to.ensures.value)) };
-    }
+    let far = last_of_four (4 * c.loop-batch.batch) o.dst_size.height t (target_row o) (length c.loop-batch.dst) (omega arith) (omega arith) in
+    record { apart = c.requires.target.apart; within = simp (length-take, length-drop) (omega arith) }
 
-pub loop-y-preserved-then-height-y-ge4 : goal.loop-y-preserved-then-height-y-ge4
-loop-y-preserved-then-height-y-ge4 g c =
+pub loop-batch-preserved : goal.loop-batch-preserved
+loop-batch-preserved g c =
     let o = c.args.options in
     let t = c.args.dst_stride in
-    let m = g.F.KernelFamily.meaning c.args.family.now in
-    let far = last_of_four c.loop-y.y o.dst_size.height t (target_row o) (length c.loop-y.dst) (omega arith) (omega arith) in
-    let even = both_even m o c.args.src.now c.args.src_stride (g.met.F.KernelFamily.shaped c.args.family.now) c.requires.ready.source_height.0 c.requires.source c.requires.ready.source_width.0 in (
-      omega arith,
-      painted_batch c.args.dst.now c.loop-y.dst c.filter_4_rows.new.dst t c.loop-y.y _ _ 4 (both_row m o c.args.src.now c.args.src_stride) (λ i. both_row m o c.args.src.now c.args.src_stride (c.loop-y.y + i)) c.loop-y.invariant.1 c.row_start-to.ensures.value c.filter_4_rows.ensures (omega arith)
-          (λ i l. each_of_four i t _ (target_row o) _ l (even (c.loop-y.y + i)) (omega (arith, c.row_start-to.ensures.value)))
-          (λ i l. refl),
-    )
+    let y = 4 * c.loop-batch.batch in
+    let rows = both_row (g.F.KernelFamily.meaning c.args.family.now) o (image_of c.args.src.now) in
+    let far = last_of_four y o.dst_size.height t (target_row o) (length c.loop-batch.dst) (omega arith) (omega arith) in
+    let even = both_even (g.F.KernelFamily.meaning c.args.family.now) o (image_of c.args.src.now) (g.met.F.KernelFamily.shaped c.args.family.now) c.requires.ready.source_height.0 (source_sized c.args.src.now (source_row o) o.src_size.height c.requires.source.width c.requires.source.height) c.requires.ready.source_width.0 in
+    painted_batch c.args.dst.now c.loop-batch.dst c.filter_4_rows.new.dst t y (y * t) _ 4 rows (λ i. rows (y + i)) c.loop-batch.invariant refl c.filter_4_rows.ensures (omega arith)
+    (λ i l. each_of_four i t _ (target_row o) _ l (even (y + i)) (omega arith))
+    (λ i l. refl)
+    ∙ ap (painted c.args.dst.now t rows) (omega arith)
 
 pub loop-y-preserved : goal.loop-y-preserved
-loop-y-preserved g c = (
-  omega arith,
-  painted_more c.args.dst.now c.loop-y.dst c.filter_row.new.dst c.args.dst_stride c.loop-y.y _ _ _ c.loop-y.invariant.1 c.row_start-to.ensures.value (search rules) (search rules),
-)
+loop-y-preserved g c =
+    painted_more c.args.dst.now c.loop-y.dst c.filter_row.new.dst c.args.dst_stride c.loop-y.y _ _ _ c.loop-y.invariant refl (search rules) (search rules)
 
 pub returns : goal.returns
 returns g c =
     let o = c.args.options in
-    let rows = both_row (g.F.KernelFamily.meaning c.args.family.now) o c.args.src.now c.args.src_stride in
+    let m = g.F.KernelFamily.meaning c.args.family.now in
+    let im = image_of c.args.src.now in
     let all : c.loop-y.y ≡ o.dst_size.height = omega arith in
-    c.loop-y.invariant.1
-    ∙ ap (painted c.args.dst.now c.args.dst_stride rows) all
-    ∙ both_run (g.F.KernelFamily.meaning c.args.family.now) o c.args.src.now c.args.src_stride c.args.dst.now c.args.dst_stride
+    c.loop-y.invariant
+    ∙ (ap (painted c.args.dst.now c.args.dst_stride (both_row m o im)) all
+    ∙ both_run m o im c.args.dst.now c.args.dst_stride)
+
+pub offset_bounds-dst-y : goal.offset_bounds-dst-y
+offset_bounds-dst-y g c =
+    let w = row_fits (4 * c.loop-batch.batch) c.args.options.dst_size.height c.args.dst_stride (target_row c.args.options) (length c.loop-batch.dst) (omega arith) (omega arith) in
+    search rules
+
+pub slice_bounds-filter_4_rows-count : goal.slice_bounds-filter_4_rows-count
+slice_bounds-filter_4_rows-count g c =
+    let w = row_fits (4 * c.loop-batch.batch) c.args.options.dst_size.height c.args.dst_stride (target_row c.args.options) (length c.loop-batch.dst) (omega arith) (omega arith) in
+    search rules
+
+pub slice_bounds-filter_4_rows-start : goal.slice_bounds-filter_4_rows-start
+slice_bounds-filter_4_rows-start g c =
+    let w = row_fits (4 * c.loop-batch.batch) c.args.options.dst_size.height c.args.dst_stride (target_row c.args.options) (length c.loop-batch.dst) (omega arith) (omega arith) in
+    search rules
+
+pub offset_bounds-dst-to : goal.offset_bounds-dst-to
+offset_bounds-dst-to g c =
+    let w = row_fits c.loop-y.y c.args.options.dst_size.height c.args.dst_stride (target_row c.args.options) (length c.loop-y.dst) (omega arith) (omega arith) in
+    search rules

@@ -1,11 +1,11 @@
-use Rattle.std.proofs.Common.{◌≡◌, ◌-◌, ◌≤◌}
+use Rattle.std.proofs.Common.{◌≡◌, ◌*◌}
+use Rattle.image.specs.Images.{image_of}
 use Rattle.image.specs.Rows.{painted}
 use Rattle.resampling.specs.Runs.{both_row}
 use Rattle.resampling.proofs.trampoline_filtering.trampoline_filter.Given as goal
 
-abbrev pub invariant-loop-y : goal.invariant-loop-y
-invariant-loop-y g l =
-    (l.y ≤ l.height) × (l.dst ≡ painted l.initial.dst l.dst_stride (both_row (g.F.KernelFamily.meaning l.family) l.options l.src l.src_stride) l.y)
+abbrev pub invariant-loop-batch : goal.invariant-loop-batch
+invariant-loop-batch g l = l.dst ≡ painted l.initial.dst l.dst_stride (both_row (g.F.KernelFamily.meaning l.family) l.options (image_of l.src)) (4 * l.batch)
 
-abbrev pub decreases-loop-y : goal.decreases-loop-y
-decreases-loop-y g l = l.height - l.y
+abbrev pub invariant-loop-y : goal.invariant-loop-y
+invariant-loop-y g l = l.dst ≡ painted l.fn.dst l.dst_stride (both_row (g.F.KernelFamily.meaning l.family) l.options (image_of l.src)) l.y

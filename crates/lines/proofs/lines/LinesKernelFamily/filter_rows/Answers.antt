@@ -5,12 +5,11 @@ use Rattle.image.specs.Images.{image_of}
 use Rattle.image.specs.declared.source_rows.SourceRows.{SourceRows}
 use Rattle.image.proofs.Paint.{painted_none, painted_more}
 use Rattle.image.proofs.Painted.{painted_batch}
-use Rattle.image.proofs.RowsOf.{length-rows, rows_even}
 use Rattle.image.proofs.Strides.{row_fits}
 use Rattle.convolution.specs.Meaning.{Meaning, Shaped, source_row, target_row, row_value}
 use Rattle.convolution.specs.declared.convolution.ConvolutionOptions.{ConvolutionOptions}
 use Rattle.lines.specs.Lines.{line_meaning}
-use Rattle.lines.specs.OfLines.{line_shaped}
+use Rattle.lines.specs.OfLines.{row_even, line_shaped}
 use Rattle.lines.proofs.lines.LinesKernelFamily.filter_rows.Goals as goal
 use Rattle.lines.proofs.lines.LinesKernelFamily.filter_rows.Goals.{else-loop-y-test, then-loop-y-test+else-whole-y-gt4}
 
@@ -20,7 +19,7 @@ module _ {X : Type 0} (m : Meaning X) (shaped : Shaped m) (o : ConvolutionOption
   four_more dst0 dst ys y some wide fits below long was is =
       let im = image_of r in
       let here : (i : ℕ) → i < 4 → row (take 4 (drop y im)) i ≡ row im (y + i) = λ i l. get_or-take 4 (drop y im) i [] l ∙ get_or-drop y im i [] in
-      let even : (i : ℕ) → i < 4 → length (row (take 4 (drop y im)) i) ≡ source_row o = λ i l. ap length (here i l) ∙ (rows_even r.elements.now r.row_length r.stride r.height r.fit.within (y + i) (omega (arith, length-rows r.elements.now r.row_length r.stride r.height)) ∙ wide) in
+      let even : (i : ℕ) → i < 4 → length (row (take 4 (drop y im)) i) ≡ source_row o = λ i l. ap length (here i l) ∙ (row_even r (y + i) (omega arith) ∙ wide) in
       let last = row_fits y r.height s (target_row o) (length dst0) (omega arith) fits.within in
       painted_batch dst0 dst ys s y (y * s) (length dst - y * s) 4 _ _ was refl is (omega arith)
       (λ i l. omega (arith, add-mul y i s, row_fits (y + i) r.height s (target_row o) (length dst0) (omega arith) fits.within, shaped.across_length o.function o.channels o.src_size.width _ o.dst_size.width o.bit_depth some (even i l)))
