@@ -32,6 +32,7 @@ fn pixel_of_row<T: Element, K: LineKernel<T>, const N: usize>(
     requires source { length row.now ≡ axis.now.source * N }
     ensures { result ≡ pixel K.LineKernel.value row.now N axis.now.source axis.now.target x }
 {
+    // `array::from_fn` is no plainer: its closure needs clauses of its own, for the line and for the place.
     let mut pixel = [row[0]; N];
     for (k, out) in pixel.iter_mut().enumerate() {
         let line = Line {
@@ -45,7 +46,7 @@ fn pixel_of_row<T: Element, K: LineKernel<T>, const N: usize>(
     pixel
 }
 
-// The same of four rows. In a function of its own, since the pixels stay in registers then.
+// The same of four rows, in a function of its own: as a loop in `four_rows_of_pixels` it took up to a third longer.
 fn pixels_of_4_rows<T: Element, K: LineKernel<T>, const N: usize>(
     kernel: &K,
     place: K::Place,
@@ -82,6 +83,7 @@ fn row_of_pixels<T: Element, K: LineKernel<T>, const N: usize>(
     requires target { length dst.old ≡ axis.now.target * N }
     ensures { dst.new ≡ joined (pixel K.LineKernel.value row.now N axis.now.source axis.now.target) axis.now.target }
 {
+    // Over `as_chunks_mut` the proof did not close: nothing is known of what the slice ends as.
     for x in 0..axis.target {
         let place = kernel.place(axis, x);
         let pixel = pixel_of_row::<T, K, N>(kernel, place, row, axis, x);

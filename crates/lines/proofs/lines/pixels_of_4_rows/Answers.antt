@@ -16,23 +16,8 @@ pixel_of_row-pixel-requires g c =
     let few : g.row.N ≤ length c.index-rows-i.result.now = omega (arith, ap (λ (r : Bor (List g.row.T.Denot)). length r.now) c.index-rows-i.is, packed c.args.axis.now.source g.row.N c.args.axis.now.lengths.0.0, long) in
     (lt_of_le_of_lt (mul-le-mul_right _ few) (search rules), (c.requires.place, (c.requires.output, (c.requires.channels, long))))
 
-pub overflow_mul-to : goal.overflow_mul-to
-overflow_mul-to g c =
-    let w = row_fits c.loop-i.i 4 c.args.dst_stride g.row.N (length c.loop-i.dst) (omega arith) (omega arith) in
-    search rules
-
-pub overflow_add-to : goal.overflow_add-to
-overflow_add-to g c =
-    let w = row_fits c.loop-i.i 4 c.args.dst_stride g.row.N (length c.loop-i.dst) (omega arith) (omega arith) in
-    search rules
-
 pub offset_bounds-dst-to : goal.offset_bounds-dst-to
 offset_bounds-dst-to g c =
-    let w = row_fits c.loop-i.i 4 c.args.dst_stride g.row.N (length c.loop-i.dst) (omega arith) (omega arith) in
-    search rules
-
-pub slice_bounds-copy_from_slice-end : goal.slice_bounds-copy_from_slice-end
-slice_bounds-copy_from_slice-end g c =
     let w = row_fits c.loop-i.i 4 c.args.dst_stride g.row.N (length c.loop-i.dst) (omega arith) (omega arith) in
     search rules
 
