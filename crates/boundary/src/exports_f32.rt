@@ -1,10 +1,8 @@
 // The exported calls on f32, by FloatTent.
-// The allocator takes no bytes: a caller passes nothing for `heap`.
 ghost use Rattle.std.specs.Prelude.{false, length, Some, None};
 ghost use Rattle.foreign_calls.specs.Crossing.{Called, PlanTold, CropTold};
 ghost use Rattle.boundary.specs.Families.{float_tent};
 
-use crate::families::floats;
 use foreign_calls::{
     Numbers, Part, Plan, Request, StageRow, Values, call_by, crop_by, plan_by, tell,
 };
@@ -23,7 +21,7 @@ pub extern "C" fn japotuhe_plan_f32(
     ensures { PlanTold float_tent.knows request.now number planned.old stage.old result told.new planned.new stage.new }
 {
     tell(
-        plan_by::<f32, FloatTent>(heap, floats(), request, number, planned, stage),
+        plan_by::<f32, _>(heap, FloatTent::default(), request, number, planned, stage),
         told,
     )
 }
@@ -44,9 +42,9 @@ pub extern "C" fn japotuhe_resample_f32(
     ensures { Called 4 false float_tent request.now None source.now from.now sheet.now into.old work.old first.old second.old result told.new into.new work.new first.new second.new }
 {
     tell(
-        call_by::<f32, FloatTent>(
+        call_by(
             heap,
-            floats(),
+            FloatTent::default(),
             request,
             from,
             source,
@@ -78,9 +76,9 @@ pub extern "C" fn japotuhe_window_f32(
     ensures { Called 4 false float_tent request.now (Some part.now) source.now from.now sheet.now into.old work.old first.old second.old result told.new into.new work.new first.new second.new }
 {
     tell(
-        call_by::<f32, FloatTent>(
+        call_by(
             heap,
-            floats(),
+            FloatTent::default(),
             request,
             from,
             source,
@@ -106,5 +104,5 @@ pub extern "C" fn japotuhe_crop_f32(
 ) -> usize
     ensures { CropTold 4 source.now (length from.now) part.now cropped.old count.old result told.new cropped.new count.new }
 {
-    tell(crop_by::<f32>(from, source, part, cropped, count), told)
+    tell(crop_by(from, source, part, cropped, count), told)
 }

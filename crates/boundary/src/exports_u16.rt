@@ -1,17 +1,13 @@
 // The exported calls on u16, by Pair of Tent and Span.
-// The allocator takes no bytes: a caller passes nothing for `heap`.
 ghost use Rattle.std.specs.Prelude.{true, length, Some, None};
 ghost use Rattle.foreign_calls.specs.Crossing.{Called, PlanTold, CropTold};
 ghost use Rattle.boundary.specs.Families.{tent_span};
 
-use crate::families::pair;
+use crate::families::TentSpan;
 use foreign_calls::{
     Numbers, Part, Plan, Request, StageRow, Values, call_by, crop_by, plan_by, tell,
 };
-use layers::Pair;
-use span::Span;
 use std::alloc::Global;
-use tent::Tent;
 
 #[unsafe(no_mangle)]
 pub extern "C" fn japotuhe_plan_u16(
@@ -25,7 +21,7 @@ pub extern "C" fn japotuhe_plan_u16(
     ensures { PlanTold tent_span.knows request.now number planned.old stage.old result told.new planned.new stage.new }
 {
     tell(
-        plan_by::<u16, Pair<Tent, Span>>(heap, pair(), request, number, planned, stage),
+        plan_by::<u16, _>(heap, TentSpan::default(), request, number, planned, stage),
         told,
     )
 }
@@ -46,9 +42,9 @@ pub extern "C" fn japotuhe_resample_u16(
     ensures { Called 2 true tent_span request.now None source.now from.now sheet.now into.old work.old first.old second.old result told.new into.new work.new first.new second.new }
 {
     tell(
-        call_by::<u16, Pair<Tent, Span>>(
+        call_by(
             heap,
-            pair(),
+            TentSpan::default(),
             request,
             from,
             source,
@@ -80,9 +76,9 @@ pub extern "C" fn japotuhe_window_u16(
     ensures { Called 2 true tent_span request.now (Some part.now) source.now from.now sheet.now into.old work.old first.old second.old result told.new into.new work.new first.new second.new }
 {
     tell(
-        call_by::<u16, Pair<Tent, Span>>(
+        call_by(
             heap,
-            pair(),
+            TentSpan::default(),
             request,
             from,
             source,
@@ -108,5 +104,5 @@ pub extern "C" fn japotuhe_crop_u16(
 ) -> usize
     ensures { CropTold 2 source.now (length from.now) part.now cropped.old count.old result told.new cropped.new count.new }
 {
-    tell(crop_by::<u16>(from, source, part, cropped, count), told)
+    tell(crop_by(from, source, part, cropped, count), told)
 }

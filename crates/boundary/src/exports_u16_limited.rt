@@ -1,15 +1,11 @@
 // The exported calls on u16, by Pair of Tent and Span held to the depth.
-// The allocator takes no bytes: a caller passes nothing for `heap`.
 ghost use Rattle.std.specs.Prelude.{true, Some, None};
 ghost use Rattle.foreign_calls.specs.Crossing.{Called, PlanTold};
 ghost use Rattle.boundary.specs.Families.{limited_tent_span};
 
-use crate::families::limited;
+use crate::families::LimitedTentSpan;
 use foreign_calls::{Numbers, Part, Plan, Request, StageRow, Values, call_by, plan_by, tell};
-use layers::{Limit, Pair};
-use span::Span;
 use std::alloc::Global;
-use tent::Tent;
 
 #[unsafe(no_mangle)]
 pub extern "C" fn japotuhe_plan_u16_limited(
@@ -23,7 +19,14 @@ pub extern "C" fn japotuhe_plan_u16_limited(
     ensures { PlanTold limited_tent_span.knows request.now number planned.old stage.old result told.new planned.new stage.new }
 {
     tell(
-        plan_by::<u16, Limit<Pair<Tent, Span>>>(heap, limited(), request, number, planned, stage),
+        plan_by::<u16, _>(
+            heap,
+            LimitedTentSpan::default(),
+            request,
+            number,
+            planned,
+            stage,
+        ),
         told,
     )
 }
@@ -44,9 +47,9 @@ pub extern "C" fn japotuhe_resample_u16_limited(
     ensures { Called 2 true limited_tent_span request.now None source.now from.now sheet.now into.old work.old first.old second.old result told.new into.new work.new first.new second.new }
 {
     tell(
-        call_by::<u16, Limit<Pair<Tent, Span>>>(
+        call_by(
             heap,
-            limited(),
+            LimitedTentSpan::default(),
             request,
             from,
             source,
@@ -78,9 +81,9 @@ pub extern "C" fn japotuhe_window_u16_limited(
     ensures { Called 2 true limited_tent_span request.now (Some part.now) source.now from.now sheet.now into.old work.old first.old second.old result told.new into.new work.new first.new second.new }
 {
     tell(
-        call_by::<u16, Limit<Pair<Tent, Span>>>(
+        call_by(
             heap,
-            limited(),
+            LimitedTentSpan::default(),
             request,
             from,
             source,

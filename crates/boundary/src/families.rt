@@ -1,22 +1,8 @@
-// The families of the exported calls.
+// The families of the exported calls; that of floats is tent's.
 use layers::{Limit, Pair};
-use lines::Lines;
-use span::{Mean, Span};
-use tent::{FloatLinear, FloatTent, Linear, Tent};
+use span::Span;
+use tent::Tent;
 
-pub(crate) fn pair() -> Pair<Tent, Span> {
-    Pair {
-        first: Lines { kernel: Linear {} },
-        second: Lines { kernel: Mean {} },
-    }
-}
+pub(crate) type TentSpan = Pair<Tent, Span>;
 
-pub(crate) fn limited() -> Limit<Pair<Tent, Span>> {
-    Limit { below: pair() }
-}
-
-pub(crate) fn floats() -> FloatTent {
-    Lines {
-        kernel: FloatLinear {},
-    }
-}
+pub(crate) type LimitedTentSpan = Limit<TentSpan>;

@@ -21,7 +21,7 @@ use Rattle.values.specs.Values.{composed}
 
 -- two by three pixels of one channel
 abbrev two_by_three : ℕ → Numbers
-two_by_three stride = record { channels = 1; width = 2; height = 3; stride = stride; depth = 0 }
+two_by_three stride = record { channels = 1; width = 2; height = 3; stride = stride; bit_depth = 0 }
 
 abbrev by : ℕ → ℕ → ImageSize
 by w h = record { width = w; height = h }

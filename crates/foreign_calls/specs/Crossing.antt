@@ -1,6 +1,8 @@
 -- What one call from outside does: planning first, and where that is granted one call on the sheet.
 use Rattle.std.specs.Prelude.{◌≡◌, ℕ, ◌-◌, Bool, false, cond, List, map, Option, Result, slice_index_or}
 use Rattle.image.specs.declared.validation.PicScaleError.{PicScaleError}
+use Rattle.image.specs.declared.numbers.Numbers.{Numbers}
+use Rattle.image.specs.declared.numbers.Part.{Part}
 use Rattle.image.specs.Refusals.{Answer, reply, and_then}
 use Rattle.image.specs.Refusals.Answer.{granted}
 use Rattle.sampler.specs.declared.sampler.ResamplingFunction.{ResamplingFunction}
@@ -11,10 +13,8 @@ use Rattle.image.specs.Stores.{part_numbers, place, crop_answer}
 use Rattle.foreign_calls.specs.declared.answers.Values.{Values}
 use Rattle.foreign_calls.specs.declared.calls.Plan.{Plan}
 use Rattle.foreign_calls.specs.declared.calls.StageRow.{StageRow}
-use Rattle.foreign_calls.specs.declared.requests.Numbers.{Numbers}
-use Rattle.foreign_calls.specs.declared.requests.Part.{Part}
 use Rattle.foreign_calls.specs.declared.requests.Request.{Request}
-use Rattle.foreign_calls.specs.Requests.{number_told, values_told, numbers_of, plan_had, stage_row, request_answer, request_for, window_of, call_by, sheet_on}
+use Rattle.foreign_calls.specs.Requests.{number_told, values_told, plan_had, stage_row, request_answer, request_for, window_of, call_by, sheet_on}
 
 -- an answer as its number and its values
 pub record Told (a : Answer) (n : ℕ) (v : Values) : Type 0 where
@@ -60,9 +60,9 @@ pub record PlanTold (knows : ResamplingFunction → Bool) (q : Request) (number 
 
 -- A crop's numbers, and how many elements of the buffer are left from its first on; as they were where it is refused.
 pub record CropMade (size : ℕ) (n : Numbers) (len : ℕ) (p : Part) (m : Numbers) (k : ℕ) (a : Answer) (m' : Numbers) (k' : ℕ) : Type 0 where
-  pub answered : a ≡ crop_answer size (numbers_of n) len p.x p.y p.width p.height
-  pub numbers : numbers_of m' ≡ cond (is_granted a) (part_numbers (numbers_of n) p.width p.height) (numbers_of m)
-  pub left : k' ≡ cond (is_granted a) (len - place (numbers_of n) p.x p.y) k
+  pub answered : a ≡ crop_answer size n len p.x p.y p.width p.height
+  pub numbers : m' ≡ cond (is_granted a) (part_numbers n p.width p.height) m
+  pub left : k' ≡ cond (is_granted a) (len - place n p.x p.y) k
 
 pub record CropTold (size : ℕ) (n : Numbers) (len : ℕ) (p : Part) (m : Numbers) (k : ℕ) (number : ℕ) (v : Values) (m' : Numbers) (k' : ℕ) : Type 0 where
   pub said : Answer

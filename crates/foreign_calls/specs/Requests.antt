@@ -2,8 +2,9 @@
 use Rattle.std.specs.Prelude.{ℕ, Bool, cond, List, [], ◌∷◌, length, Some, None, Option, nat_lt, slice_index}
 use Rattle.image.specs.Refusals.{Answer, check, answer, and_then}
 use Rattle.image.specs.Refusals.Answer.{granted, refused}
-use Rattle.image.specs.declared.numbers.Numbers.{Numbers as OfStore}
 use Rattle.image.specs.declared.image_size.ImageSize.{ImageSize}
+use Rattle.image.specs.declared.numbers.Numbers.{Numbers}
+use Rattle.image.specs.declared.numbers.Part.{Part}
 use Rattle.sampler.specs.Functions.{function_at, place}
 use Rattle.sampler.specs.declared.sampler.ResamplingFunction.{ResamplingFunction}
 use Rattle.convolution.specs.Meaning.{Meaning}
@@ -18,8 +19,6 @@ use Rattle.foreign_calls.specs.declared.answers.Values.{Values}
 use Rattle.foreign_calls.specs.declared.calls.Plan.{Plan}
 use Rattle.foreign_calls.specs.declared.calls.StageRow.{StageRow}
 use Rattle.foreign_calls.specs.declared.requests.Request.{Request}
-use Rattle.foreign_calls.specs.declared.requests.Numbers.{Numbers}
-use Rattle.foreign_calls.specs.declared.requests.Part.{Part}
 
 -- the scaler: the function at its place, and flags that are on unless they are 0
 abbrev pub scaler_of : Request → Scaler
@@ -41,10 +40,6 @@ abbrev pub request_answer : (ResamplingFunction → Bool) → Request → Answer
 request_answer knows q =
     and_then (answer (check (nat_lt 52 q.function) 7 [] ∷ []))
     (plan_answer knows (scaler_of q) q.channels (source_of q) (target_of q))
-
--- the numbers of a store
-abbrev pub numbers_of : Numbers → OfStore
-numbers_of n = record { channels = n.channels; width = n.width; height = n.height; stride = n.stride; depth = n.bit_depth }
 
 -- a stage in numbers
 abbrev pub stage_row : Stage → StageRow
@@ -88,7 +83,7 @@ module _ {E : Type 0} where
     meaning = m;
     request = r;
     window = w;
-    source = record { numbers = numbers_of s; elements = from };
+    source = record { numbers = s; elements = from };
     work = work;
     first = first;
     second = second;
@@ -96,4 +91,4 @@ module _ {E : Type 0} where
 
   -- the sheet of these numbers over a buffer
   abbrev pub sheet_on : Numbers → List E → Store E
-  sheet_on n xs = record { numbers = numbers_of n; elements = xs }
+  sheet_on n xs = record { numbers = n; elements = xs }

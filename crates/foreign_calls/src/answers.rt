@@ -1,5 +1,5 @@
 // What a caller is told: 0 where it is granted, else the refusal's number, and the values that it carries.
-ghost use Rattle.std.specs.Prelude.{◌≡◌};
+ghost use Rattle.std.specs.Prelude.{◌≡◌, []};
 ghost use Rattle.image.specs.Refusals.{reply, values_of};
 ghost use Rattle.foreign_calls.specs.Requests.{six};
 ghost use Rattle.foreign_calls.specs.Crossing.{Told};
@@ -8,7 +8,7 @@ use image::PicScaleError;
 
 // The values of a refusal, in their order; those that it does not carry are 0.
 #[repr(C)]
-#[derive(Clone, Copy)]
+#[derive(Clone, Copy, Default)]
 pub struct Values {
     pub first: usize,
     pub second: usize,
@@ -18,78 +18,65 @@ pub struct Values {
     pub sixth: usize,
 }
 
-fn values_from(
-    first: usize,
-    second: usize,
-    third: usize,
-    fourth: usize,
-    fifth: usize,
-    sixth: usize,
-) -> Values
-    ensures { result ≡ record { first = first; second = second; third = third; fourth = fourth; fifth = fifth; sixth = sixth } }
-{
-    Values {
-        first,
-        second,
-        third,
-        fourth,
-        fifth,
-        sixth,
+impl From<[usize; 6]> for Values {
+    ghost from_gives = { λ vs r. r ≡ six vs };
+
+    fn from([first, second, third, fourth, fifth, sixth]: [usize; 6]) -> Values {
+        Values {
+            first,
+            second,
+            third,
+            fourth,
+            fifth,
+            sixth,
+        }
     }
 }
 
-fn values_of(fault: PicScaleError) -> Values
-    ensures { result ≡ six (values_of fault) }
-{
-    match fault {
-        PicScaleError::BufferMismatch {
-            expected,
-            width,
-            height,
-            channels,
-            slice_len,
-        } => values_from(expected, width, height, channels, slice_len, 0),
-        PicScaleError::InvalidStride(row, stride) => values_from(row, stride, 0, 0, 0, 0),
-        PicScaleError::UnsupportedBitDepth(depth) => values_from(depth, 0, 0, 0, 0, 0),
-        PicScaleError::InvalidScratchSize { expected, size } => values_from(
-            expected, size, 0, 0, 0, 0,
-        ),
-        PicScaleError::InvalidSourceSize { expected, size } => values_from(
-            expected.width,
-            expected.height,
-            size.width,
-            size.height,
-            0,
-            0,
-        ),
-        PicScaleError::InvalidDestinationSize { expected, size } => values_from(
-            expected.width,
-            expected.height,
-            size.width,
-            size.height,
-            0,
-            0,
-        ),
-        PicScaleError::CropOutOfBounds {
-            x,
-            y,
-            width,
-            height,
-            image_width,
-            image_height,
-        } => values_from(x, y, width, height, image_width, image_height),
-        PicScaleError::ChannelCount(channels) => values_from(channels, 0, 0, 0, 0, 0),
-        PicScaleError::ChannelMismatch { expected, channels } => values_from(
-            expected, channels, 0, 0, 0, 0,
-        ),
-        PicScaleError::DimensionLimit(value) => values_from(value, 0, 0, 0, 0, 0),
-        PicScaleError::ZeroImageDimensions
-        | PicScaleError::SourceImageIsTooLarge
-        | PicScaleError::DestinationImageIsTooLarge => values_from(0, 0, 0, 0, 0, 0),
-        PicScaleError::UnknownResizingFilter
-        | PicScaleError::OrderShort
-        | PicScaleError::OrderForm => values_from(0, 0, 0, 0, 0, 0),
-        PicScaleError::OrderTooLarge | PicScaleError::OutOfMemory => values_from(0, 0, 0, 0, 0, 0),
+impl From<PicScaleError> for Values {
+    ghost from_gives = { λ fault r. r ≡ six (values_of fault) };
+
+    fn from(fault: PicScaleError) -> Values {
+        let values: [usize; 6] = match fault {
+            PicScaleError::BufferMismatch {
+                expected,
+                width,
+                height,
+                channels,
+                slice_len,
+            } => [expected, width, height, channels, slice_len, 0],
+            PicScaleError::InvalidStride(a, b)
+            | PicScaleError::InvalidScratchSize {
+                expected: a,
+                size: b,
+            }
+            | PicScaleError::ChannelMismatch {
+                expected: a,
+                channels: b,
+            } => [a, b, 0, 0, 0, 0],
+            PicScaleError::UnsupportedBitDepth(a)
+            | PicScaleError::ChannelCount(a)
+            | PicScaleError::DimensionLimit(a) => [a, 0, 0, 0, 0, 0],
+            PicScaleError::InvalidSourceSize { expected, size }
+            | PicScaleError::InvalidDestinationSize { expected, size } => [
+                expected.width,
+                expected.height,
+                size.width,
+                size.height,
+                0,
+                0,
+            ],
+            PicScaleError::CropOutOfBounds {
+                x,
+                y,
+                width,
+                height,
+                image_width,
+                image_height,
+            } => [x, y, width, height, image_width, image_height],
+            _ => [0; 6],
+        };
+        Values::from(values)
     }
 }
 
@@ -99,11 +86,11 @@ pub fn tell(answer: Result<(), PicScaleError>, told: &mut Values) -> usize
 {
     match answer {
         Ok(()) => {
-            *told = values_from(0, 0, 0, 0, 0, 0);
+            *told = Values::default();
             0
         }
         Err(fault) => {
-            *told = values_of(fault);
+            *told = Values::from(fault);
             fault.code()
         }
     }

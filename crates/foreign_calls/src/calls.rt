@@ -4,15 +4,15 @@ ghost use Rattle.std.specs.Prelude.{◌≡◌, ◌-◌, false, map, length, is_o
 ghost use Rattle.image.specs.Refusals.{reply};
 ghost use Rattle.planner.specs.Plan.{Planned, but_for_memory};
 ghost use Rattle.image.specs.Stores.{part_numbers, place, crop_answer};
-ghost use Rattle.history.specs.Calls.{Step, steps};
+ghost use Rattle.history.specs.Calls.{steps};
 ghost use Rattle.resampling.specs.Seen.{request_of};
-ghost use Rattle.foreign_calls.specs.Requests.{scaler_of, source_of, target_of, request_answer, request_for, window_of, call_by, sheet_on, stage_row, plan_had, numbers_of};
+ghost use Rattle.foreign_calls.specs.Requests.{scaler_of, source_of, target_of, request_answer, request_for, window_of, call_by, sheet_on, stage_row, plan_had};
 ghost use Rattle.foreign_calls.specs.Crossing.{Crossing};
 
-use crate::requests::{Numbers, Part, Request};
+use crate::requests::Request;
 use convolution::KernelFamily;
-use image::{Element, ImageStore, ImageStoreMut, PicScaleError};
-use planner::{ResamplingPlan, Stage, plan_generic_resize};
+use image::{Element, ImageStore, ImageStoreMut, Numbers, Part, PicScaleError};
+use planner::{ResamplingPlan, Scaler, Stage, plan_generic_resize};
 use resampling::{resample_window, resample_with_scratch};
 use std::alloc::Global;
 
@@ -25,6 +25,7 @@ pub struct Plan {
     pub half: usize,
 }
 
+// The letter and the function are numbers, as C's header has them.
 #[repr(C)]
 #[derive(Clone, Copy)]
 pub struct StageRow {
@@ -36,17 +37,30 @@ pub struct StageRow {
     pub target_height: usize,
 }
 
-fn row_of(stage: Stage) -> StageRow
-    ensures { result ≡ stage_row stage }
-{
-    let letter = stage.letter() as u32;
-    StageRow {
-        letter,
-        function: stage.function.place(),
-        source_width: stage.source.width,
-        source_height: stage.source.height,
-        target_width: stage.target.width,
-        target_height: stage.target.height,
+impl<T, F> From<&ResamplingPlan<T, F>> for Plan {
+    ghost from_gives = { λ p r. r ≡ plan_had (request_of p.now) };
+
+    fn from(plan: &ResamplingPlan<T, F>) -> Plan {
+        Plan {
+            stages: plan.stages().len(),
+            work: plan.scratch_size(),
+            half: plan.half_size(),
+        }
+    }
+}
+
+impl From<Stage> for StageRow {
+    ghost from_gives = { λ s r. r ≡ stage_row s };
+
+    fn from(stage: Stage) -> StageRow {
+        StageRow {
+            letter: stage.letter().into(),
+            function: stage.function.into(),
+            source_width: stage.source.width,
+            source_height: stage.source.height,
+            target_width: stage.target.width,
+            target_height: stage.target.height,
+        }
     }
 }
 
@@ -59,7 +73,7 @@ fn planned<T: Element, F: KernelFamily<T>>(
     ensures answer { but_for_memory (reply result) ≡ request_answer (F.KernelFamily.meaning family).knows request.now }
     ensures plan { IfOk result (Planned family (scaler_of request.now) request.now.channels (source_of request.now) (target_of request.now)) }
 {
-    let scaler = request.scaler()?;
+    let scaler = Scaler::try_from(request)?;
     plan_generic_resize(
         heap,
         scaler,
@@ -70,55 +84,8 @@ fn planned<T: Element, F: KernelFamily<T>>(
     )
 }
 
-// The call on a sheet, into a window of it or into the whole: the stores are made here, over the whole of the slices.
-fn call_on<T: Element, F: KernelFamily<T>>(
-    plan: &ResamplingPlan<T, F>,
-    from: &[T],
-    source: &Numbers,
-    into: &mut [T],
-    sheet: &Numbers,
-    window: Option<Part>,
-    work: &mut [T],
-    first: &mut [T],
-    second: &mut [T],
-) -> Result<(), PicScaleError>
-    ensures step { Step T.Element.BYTES T.Element.NEEDS_DEPTH (call_by (F.KernelFamily.meaning plan.now.family) (request_of plan.now) (window_of window) source.now from.now work.old first.old second.old) (sheet_on sheet.now into.old) (reply result) (sheet_on sheet.now into.new) }
-    ensures kept { is_ok result ≡ false → (work.new ≡ work.old) × (first.new ≡ first.old) × (second.new ≡ second.old) }
-{
-    let source = ImageStore {
-        buffer: from,
-        channels: source.channels,
-        width: source.width,
-        height: source.height,
-        stride: source.stride,
-        bit_depth: source.bit_depth,
-    };
-    let mut sheet = ImageStoreMut {
-        buffer: into,
-        channels: sheet.channels,
-        width: sheet.width,
-        height: sheet.height,
-        stride: sheet.stride,
-        bit_depth: sheet.bit_depth,
-    };
-    match window {
-        None => resample_with_scratch(plan, &source, &mut sheet, work, first, second),
-        Some(part) => resample_window(
-            plan,
-            &source,
-            &mut sheet,
-            part.x,
-            part.y,
-            part.width,
-            part.height,
-            work,
-            first,
-            second,
-        ),
-    }
-}
-
-// Plans, and makes the call.
+// Plans, and makes the call on a sheet, into a window of it or into the whole. The parameters are an export's own, as C
+// passes them: the stores are made here, over the whole of the slices.
 pub fn call_by<T: Element, F: KernelFamily<T>>(
     heap: Global,
     family: F,
@@ -135,34 +102,21 @@ pub fn call_by<T: Element, F: KernelFamily<T>>(
     ensures { Crossing T.Element.BYTES T.Element.NEEDS_DEPTH (request_answer (F.KernelFamily.meaning family).knows request.now) (call_by (F.KernelFamily.meaning family) (request_for request.now) (window_of window) source.now from.now work.old first.old second.old) (sheet_on sheet.now into.old) (reply result) (sheet_on sheet.now into.new) work.new first.new second.new }
 {
     let plan = planned::<T, F>(heap, family, request)?;
-    call_on(
-        &plan, from, source, into, sheet, window, work, first, second,
-    )
-}
-
-fn plan_of<T, F>(plan: &ResamplingPlan<T, F>) -> Plan
-    ensures { result ≡ plan_had (request_of plan.now) }
-{
-    Plan {
-        stages: plan.stages().len(),
-        work: plan.scratch_size(),
-        half: plan.half_size(),
+    let source = ImageStore {
+        buffer: from,
+        numbers: *source,
+    };
+    let mut sheet = ImageStoreMut {
+        buffer: into,
+        numbers: *sheet,
+    };
+    match window {
+        None => resample_with_scratch(&plan, &source, &mut sheet, work, first, second),
+        Some(part) => resample_window(&plan, &source, &mut sheet, part, work, first, second),
     }
 }
 
-// The stage of a number, counted from 0, or `otherwise` where there is none.
-fn stage_at<T, F>(plan: &ResamplingPlan<T, F>, number: usize, otherwise: StageRow) -> StageRow
-    ensures { result ≡ slice_index_or (map stage_row (steps (request_of plan.now))) number otherwise }
-{
-    let stages = plan.stages();
-    if number < stages.len() {
-        row_of(stages[number])
-    } else {
-        otherwise
-    }
-}
-
-// Plans, and tells what the plan has: its sizes, and the stage of a number, where there is one.
+// Plans, and tells what the plan has: its sizes, and the stage of a number, counted from 0, where there is one.
 pub fn plan_by<T: Element, F: KernelFamily<T>>(
     heap: Global,
     family: F,
@@ -177,8 +131,10 @@ pub fn plan_by<T: Element, F: KernelFamily<T>>(
     ensures kept { is_ok result ≡ false → (plan.new ≡ plan.old) × (stage.new ≡ stage.old) }
 {
     let made = planned::<T, F>(heap, family, request)?;
-    *plan = plan_of(&made);
-    *stage = stage_at(&made, number, *stage);
+    *plan = Plan::from(&made);
+    if let Some(found) = made.stages().get(number) {
+        *stage = StageRow::from(*found);
+    }
     Ok(())
 }
 
@@ -190,33 +146,16 @@ pub fn crop_by<T: Element>(
     cropped: &mut Numbers,
     count: &mut usize,
 ) -> Result<(), PicScaleError>
-    ensures reply { reply result ≡ crop_answer T.Element.BYTES (numbers_of source.now) (length from.now) part.now.x part.now.y part.now.width part.now.height }
-    ensures part { OnOk result ((numbers_of cropped.new ≡ part_numbers (numbers_of source.now) part.now.width part.now.height) × (count.new ≡ length from.now - place (numbers_of source.now) part.now.x part.now.y)) }
+    ensures reply { reply result ≡ crop_answer T.Element.BYTES source.now (length from.now) part.now.x part.now.y part.now.width part.now.height }
+    ensures part { OnOk result ((cropped.new ≡ part_numbers source.now part.now.width part.now.height) × (count.new ≡ length from.now - place source.now part.now.x part.now.y)) }
     ensures kept { is_ok result ≡ false → (cropped.new ≡ cropped.old) × (count.new ≡ count.old) }
 {
     let source = ImageStore {
         buffer: from,
-        channels: source.channels,
-        width: source.width,
-        height: source.height,
-        stride: source.stride,
-        bit_depth: source.bit_depth,
+        numbers: *source,
     };
-    let ImageStore {
-        buffer,
-        channels,
-        width,
-        height,
-        stride,
-        bit_depth,
-    } = source.crop(part.x, part.y, part.width, part.height)?;
-    *cropped = Numbers {
-        channels,
-        width,
-        height,
-        stride,
-        bit_depth,
-    };
+    let ImageStore { buffer, numbers } = source.crop(*part)?;
+    *cropped = numbers;
     *count = buffer.len();
     Ok(())
 }

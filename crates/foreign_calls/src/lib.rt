@@ -7,4 +7,5 @@ pub mod requests;
 
 pub use answers::{Values, tell};
 pub use calls::{Plan, StageRow, call_by, crop_by, plan_by};
-pub use requests::{Numbers, Part, Request};
+pub use image::{Numbers, Part};
+pub use requests::Request;

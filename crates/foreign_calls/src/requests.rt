@@ -1,14 +1,14 @@
 // What a caller asks for, as numbers.
-ghost use Rattle.std.specs.Prelude.{◌≡◌, [], ◌∷◌, IfOk, nat_lt};
-ghost use Rattle.sampler.specs.Functions.{function_at};
-ghost use Rattle.image.specs.Refusals.{reply, check, answer};
+ghost use Rattle.std.specs.Prelude.{◌≡◌, if◌then◌else◌, Ok, Err, nat_lt};
+ghost use Rattle.image.specs.declared.validation.PicScaleError.TheVariants.{UnknownResizingFilter};
 ghost use Rattle.foreign_calls.specs.Requests.{scaler_of, source_of, target_of};
 
 use image::{ImageSize, PicScaleError};
 use planner::{Route, Scaler};
 use sampler::ResamplingFunction;
 
-// A plan: the function by its place, the flags, where 0 means off, and what is planned for.
+// A plan: the function by its place, the flags, where 0 means off, and what is planned for. The flags are bytes and
+// no bools, since C may pass any byte.
 #[repr(C)]
 #[derive(Clone, Copy)]
 pub struct Request {
@@ -21,27 +21,6 @@ pub struct Request {
     pub source_height: usize,
     pub target_width: usize,
     pub target_height: usize,
-}
-
-// The numbers of a store, whose buffer comes beside them.
-#[repr(C)]
-#[derive(Clone, Copy)]
-pub struct Numbers {
-    pub channels: usize,
-    pub width: usize,
-    pub height: usize,
-    pub stride: usize,
-    pub bit_depth: usize,
-}
-
-// A window of a sheet, or a crop of a source.
-#[repr(C)]
-#[derive(Clone, Copy)]
-pub struct Part {
-    pub x: usize,
-    pub y: usize,
-    pub width: usize,
-    pub height: usize,
 }
 
 impl Request {
@@ -62,40 +41,27 @@ impl Request {
             height: self.target_height,
         }
     }
+}
 
-    fn route(&self) -> Route
-        ensures { result ≡ (scaler_of self.now).route }
-    {
-        if self.whole > 0 {
-            Route::Whole
-        } else {
-            Route::Single
-        }
-    }
+// The scaler that is asked for. A place beyond the last function is unknown to every family.
+impl TryFrom<&Request> for Scaler {
+    type Error = PicScaleError;
 
-    // A place beyond the last function is unknown to every family.
-    fn function(&self) -> Result<ResamplingFunction, PicScaleError>
-        ensures reply { reply result ≡ answer (check (nat_lt 52 self.now.function) 7 [] ∷ []) }
-        ensures value { IfOk result (λ f. f ≡ function_at self.now.function) }
-    {
-        match ResamplingFunction::at_place(self.function) {
-            Some(function) => Ok(function),
-            None => Err(PicScaleError::UnknownResizingFilter),
-        }
-    }
+    ghost try_from_gives = { λ q r. r ≡ (if nat_lt q.now.function 53 then Ok (scaler_of q.now) else Err UnknownResizingFilter) };
 
-    // The scaler that is asked for.
-    pub(crate) fn scaler(&self) -> Result<Scaler, PicScaleError>
-        ensures reply { reply result ≡ answer (check (nat_lt 52 self.now.function) 7 [] ∷ []) }
-        ensures value { IfOk result (λ s. s ≡ scaler_of self.now) }
-    {
-        let function = self.function()?;
-        let route = self.route();
+    fn try_from(request: &Request) -> Result<Scaler, PicScaleError> {
+        let function = ResamplingFunction::try_from(request.function).map_err(
+            |_| PicScaleError::UnknownResizingFilter,
+        )?;
         Ok(Scaler {
             function,
-            multi_step_upscaling: self.multi_step > 0,
-            supersampling: self.supersampling > 0,
-            route,
+            multi_step_upscaling: request.multi_step > 0,
+            supersampling: request.supersampling > 0,
+            route: if request.whole > 0 {
+                Route::Whole
+            } else {
+                Route::Single
+            },
         })
     }
 }

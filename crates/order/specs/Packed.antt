@@ -1,4 +1,4 @@
--- A call on pixels without gaps.
+-- Pixels without gaps, and what a plan makes of them.
 use Rattle.std.specs.Prelude.{ℕ, ◌*◌, List}
 use Rattle.image.specs.Rows.{row, rows, joined}
 use Rattle.image.specs.declared.numbers.Numbers.{Numbers}
@@ -7,23 +7,9 @@ use Rattle.convolution.specs.Meaning.{Meaning}
 use Rattle.planner.specs.declared.plan.ResamplingPlan.{ResamplingPlan}
 use Rattle.planner.specs.Plan.{plan_stages}
 use Rattle.values.specs.Values.{composed}
-use Rattle.history.specs.Calls.{Call}
-use Rattle.history.specs.Calls.Window.{whole}
-use Rattle.resampling.specs.Seen.{request_of}
 
 abbrev pub packed_numbers : ℕ → ImageSize → Numbers
-packed_numbers c s = record { channels = c; width = s.width; height = s.height; stride = 0; depth = 0 }
-
-abbrev pub packed_call : {F : Type 0} → Meaning ℕ → ResamplingPlan ℕ F → ℕ → ImageSize → List ℕ → List ℕ → List ℕ → List ℕ → Call ℕ
-packed_call m p c s src work first second = record {
-  meaning = m;
-  request = request_of p;
-  window = whole;
-  source = record { numbers = packed_numbers c s; elements = src };
-  work = work;
-  first = first;
-  second = second;
-}
+packed_numbers c s = record { channels = c; width = s.width; height = s.height; stride = 0; bit_depth = 0 }
 
 -- the pixels that a plan makes of others, all without gaps
 abbrev pub plan_pixels : {F : Type 0} → Meaning ℕ → ResamplingPlan ℕ F → List ℕ → List ℕ

@@ -16,83 +16,17 @@
 // printed.
 #![tactic(auto)]
 
+ghost use Rattle.std.specs.Prelude.{◌<◌, length, IfSome};
+
 use convolution::KernelFamily;
 use foreign_calls::{Numbers, Part, Request, call_by};
-use image::{Element, PicScaleError};
+use image::PicScaleError;
 use layers::{Limit, Pair};
-use lines::Lines;
-use span::{Mean, Span};
-use std::alloc::Global;
+use numbered::{Numbered, elements_of};
+use span::Span;
+use std::alloc::{AllocError, Global};
 use std::io;
-use std::num::{f32_from_bits_with_nan, f32_to_bits_with_nan};
-use tent::{FloatLinear, FloatTent, Linear, Tent};
-
-// An element as the lines have it.
-trait Numbered: Element + Clone {
-    fn from_number(n: usize) -> Self;
-
-    fn number(self) -> usize;
-}
-
-impl Numbered for u8 {
-    fn from_number(n: usize) -> u8 {
-        (n & 0xff) as u8
-    }
-
-    fn number(self) -> usize {
-        self as usize
-    }
-}
-
-impl Numbered for u16 {
-    fn from_number(n: usize) -> u16 {
-        (n & 0xffff) as u16
-    }
-
-    fn number(self) -> usize {
-        self as usize
-    }
-}
-
-impl Numbered for f32 {
-    fn from_number(n: usize) -> f32 {
-        f32_from_bits_with_nan((n & 0xffff_ffff) as u32)
-    }
-
-    fn number(self) -> usize {
-        f32_to_bits_with_nan(self) as usize
-    }
-}
-
-// A family as each plan gets it, since a plan keeps its own.
-trait Made {
-    fn made() -> Self;
-}
-
-impl Made for Pair<Tent, Span> {
-    fn made() -> Pair<Tent, Span> {
-        Pair {
-            first: Lines { kernel: Linear {} },
-            second: Lines { kernel: Mean {} },
-        }
-    }
-}
-
-impl Made for Limit<Pair<Tent, Span>> {
-    fn made() -> Limit<Pair<Tent, Span>> {
-        Limit {
-            below: <Pair<Tent, Span> as Made>::made(),
-        }
-    }
-}
-
-impl Made for FloatTent {
-    fn made() -> FloatTent {
-        Lines {
-            kernel: FloatLinear {},
-        }
-    }
-}
+use tent::{FloatTent, Tent};
 
 // A call: the lengths of its buffers, and the elements of its source.
 #[derive(Clone, Copy)]
@@ -115,237 +49,141 @@ struct List<'a> {
     calls: Vec<Call<'a>>,
 }
 
-// The numbers of a text; none if a word is no number.
-fn numbers_of(heap: Global, text: &str) -> io::Result<Vec<usize>> {
-    let mut numbers = Vec::new(heap);
-    for word in text.split_whitespace() {
-        let Ok(n) = word.parse::<usize>() else {
-            return Ok(Vec::new(heap));
-        };
-        numbers.push(n)?;
-    }
-    Ok(numbers)
-}
-
 // A byte of a request; no function's place and no flag is larger.
 fn byte(n: usize) -> u8 {
-    n.min(255) as u8
+    u8::try_from(n).unwrap_or(u8::MAX)
+}
+
+fn request_of(
+    [
+        function,
+        multi_step,
+        supersampling,
+        whole,
+        channels,
+        source_width,
+        source_height,
+        target_width,
+        target_height,
+    ]: [usize; 9],
+) -> Request {
+    Request {
+        function: byte(function),
+        multi_step: byte(multi_step),
+        supersampling: byte(supersampling),
+        whole: byte(whole),
+        channels,
+        source_width,
+        source_height,
+        target_width,
+        target_height,
+    }
 }
 
 // The call that `numbers` begin with, and what follows it.
-fn call_of(numbers: &[usize]) -> Option<(Call<'_>, &[usize])> {
-    let (numbers, rest) = numbers.split_first_chunk::<20>()?;
-    let [
-        window,
-        function,
-        steps,
-        supers,
-        whole,
-        planned,
-        sw,
-        sh,
-        tw,
-        th,
-        x,
-        y,
-        channels,
-        width,
-        height,
-        stride,
-        work,
-        first,
-        second,
-        n,
-    ] = *numbers;
-    let (elements, rest) = rest.split_at_checked(n)?;
-    let request = Request {
-        function: byte(function),
-        multi_step: byte(steps),
-        supersampling: byte(supers),
-        whole: byte(whole),
-        channels: planned,
-        source_width: sw,
-        source_height: sh,
-        target_width: tw,
-        target_height: th,
+fn call_of(numbers: &[usize]) -> Option<(Call<'_>, &[usize])>
+    ensures { IfSome result (λ found. length found.1.now < length numbers.now) }
+{
+    let ([window], rest) = numbers.split_first_chunk::<1>()?;
+    let (asked, rest) = rest.split_first_chunk::<9>()?;
+    let ([x, y], rest) = rest.split_first_chunk::<2>()?;
+    let ([channels, width, height, stride], rest) = rest.split_first_chunk::<4>()?;
+    let ([work, first, second, n], rest) = rest.split_first_chunk::<4>()?;
+    let (elements, rest) = rest.split_at_checked(*n)?;
+    let request = request_of(*asked);
+    let part = Part {
+        x: *x,
+        y: *y,
+        width: request.target_width,
+        height: request.target_height,
     };
-    let window = if window > 0 {
-        Some(Part {
-            x,
-            y,
-            width: tw,
-            height: th,
-        })
-    } else {
-        None
-    };
-    let source = Numbers {
-        channels,
-        width,
-        height,
-        stride,
-        bit_depth: 0,
-    };
-    Some((
-        Call {
-            request,
-            window,
-            source,
-            work,
-            first,
-            second,
-            elements,
+    let call = Call {
+        request,
+        window: (*window > 0).then_some(part),
+        source: Numbers {
+            channels: *channels,
+            width: *width,
+            height: *height,
+            stride: *stride,
+            bit_depth: 0,
         },
-        rest,
-    ))
+        work: *work,
+        first: *first,
+        second: *second,
+        elements,
+    };
+    Some((call, rest))
 }
 
-// None if the numbers are no list; a list has fewer calls than numbers.
-fn list_of<'a>(heap: Global, numbers: &'a [usize]) -> io::Result<Option<List<'a>>> {
+// None if the numbers are no list.
+fn list_of(heap: Global, numbers: &[usize]) -> Result<Option<List<'_>>, AllocError> {
     let Some((opening, mut rest)) = numbers.split_first_chunk::<7>() else {
         return Ok(None);
     };
     let mut calls = Vec::new(heap);
-    for _ in 0..numbers.len() {
-        if let Some((call, after)) = call_of(rest) {
-            calls.push(call)?;
-            rest = after;
-        }
-    }
-    if !rest.is_empty() {
-        return Ok(None);
+    while let Some((call, after)) = call_of(rest) {
+        calls.push(call)?;
+        rest = after;
     }
     let [channels, width, height, stride, bit_depth, length, mark] = *opening;
-    Ok(Some(List {
-        sheet: Numbers {
-            channels,
-            width,
-            height,
-            stride,
-            bit_depth,
-        },
-        length,
-        mark,
-        calls,
-    }))
-}
-
-// The buffers of a call: all but the source's are 0 before it.
-#[derive(Drop)]
-struct Buffers<T> {
-    source: Vec<T>,
-    work: Vec<T>,
-    first: Vec<T>,
-    second: Vec<T>,
-}
-
-fn buffers_of<T: Numbered>(heap: Global, call: &Call<'_>) -> io::Result<Buffers<T>> {
-    let mut source = Vec::new(heap);
-    for n in call.elements {
-        source.push(T::from_number(*n))?;
-    }
-    let zero = T::from_number(0);
-    let work = vec![in heap; zero; call.work]?;
-    let first = vec![in heap; zero; call.first]?;
-    let second = vec![in heap; zero; call.second]?;
-    Ok(Buffers {
-        source,
-        work,
-        first,
-        second,
-    })
-}
-
-// How many values a refusal carries, and the values.
-fn values_of(fault: PicScaleError) -> (usize, [usize; 6]) {
-    match fault {
-        PicScaleError::BufferMismatch {
-            expected,
-            width,
-            height,
-            channels,
-            slice_len,
-        } => (5, [expected, width, height, channels, slice_len, 0]),
-        PicScaleError::InvalidStride(a, b)
-        | PicScaleError::InvalidScratchSize {
-            expected: a,
-            size: b,
-        }
-        | PicScaleError::ChannelMismatch {
-            expected: a,
-            channels: b,
-        } => (2, [a, b, 0, 0, 0, 0]),
-        PicScaleError::UnsupportedBitDepth(a)
-        | PicScaleError::ChannelCount(a)
-        | PicScaleError::DimensionLimit(a) => (1, [a, 0, 0, 0, 0, 0]),
-        PicScaleError::InvalidSourceSize { expected, size }
-        | PicScaleError::InvalidDestinationSize { expected, size } => (
-            4,
-            [
-                expected.width,
-                expected.height,
-                size.width,
-                size.height,
-                0,
-                0,
-            ],
-        ),
-        PicScaleError::CropOutOfBounds {
-            x,
-            y,
-            width,
-            height,
-            image_width,
-            image_height,
-        } => (6, [x, y, width, height, image_width, image_height]),
-        _ => (0, [0; 6]),
-    }
-}
-
-fn print_answer(rt: &HostRuntime, answer: Result<(), PicScaleError>) -> io::Result<()> {
-    let Err(fault) = answer else {
-        return print!(rt; "granted; ");
+    let sheet = Numbers {
+        channels,
+        width,
+        height,
+        stride,
+        bit_depth,
     };
-    print!(rt; "refused {}", fault.code())?;
-    let (count, values) = values_of(fault);
-    for value in values.iter().take(count) {
-        print!(rt; " {value}")?;
-    }
-    print!(rt; "; ")
+    Ok(
+        rest.is_empty().then_some(List {
+            sheet,
+            length,
+            mark,
+            calls,
+        }),
+    )
 }
 
-fn print_sheet<T: Numbered>(rt: &HostRuntime, buffer: &[T]) -> io::Result<()> {
-    print!(rt; "sheet")?;
-    for element in buffer {
-        print!(rt; " {}", element.number())?;
-    }
-    println!(rt; "")
+// Makes a call; all its buffers but the source's are 0 before it.
+fn make<T: Numbered, F: KernelFamily<T> + Default>(
+    heap: Global,
+    call: &Call<'_>,
+    into: &mut [T],
+    sheet: &Numbers,
+) -> Result<(), PicScaleError> {
+    let zero = T::from_number(0);
+    call_by(
+        heap,
+        F::default(),
+        &call.request,
+        &elements_of::<T>(heap, call.elements)?,
+        &call.source,
+        into,
+        sheet,
+        call.window,
+        &mut vec![in heap; zero; call.work]?,
+        &mut vec![in heap; zero; call.first]?,
+        &mut vec![in heap; zero; call.second]?,
+    )
 }
 
 // Makes the sheet and each call of a list, and prints its line.
-fn run<T: Numbered, F: KernelFamily<T> + Made>(
+fn run<T: Numbered, F: KernelFamily<T> + Default>(
     rt: &HostRuntime,
     list: &List<'_>,
 ) -> io::Result<()> {
-    let mut buffer = vec![in rt.alloc(); T::from_number(list.mark); list.length]?;
-    for call in list.calls.iter() {
-        let mut b = buffers_of(rt.alloc(), call)?;
-        let answer = call_by(
-            rt.alloc(),
-            F::made(),
-            &call.request,
-            &b.source,
-            &call.source,
-            &mut buffer,
-            &list.sheet,
-            call.window,
-            &mut b.work,
-            &mut b.first,
-            &mut b.second,
-        );
-        print_answer(rt, answer)?;
+    let heap = rt.alloc();
+    let mut buffer = vec![in heap; T::from_number(list.mark); list.length]?;
+    for call in &list.calls {
+        match make::<T, F>(heap, call, &mut buffer, &list.sheet) {
+            Ok(()) => print!(rt; "granted; ")?,
+            Err(fault) => print!(rt; "refused {fault}; ")?,
+        }
     }
-    print_sheet(rt, &buffer)
+    print!(rt; "sheet")?;
+    for element in &buffer {
+        print!(rt; " {}", element.number())?;
+    }
+    println!(rt; "")
 }
 
 // By the kind's element type and family.
@@ -361,8 +199,11 @@ fn run_kind(rt: &HostRuntime, kind: &str, list: &List<'_>) -> io::Result<()> {
 
 fn replay(rt: &HostRuntime, line: &str) -> io::Result<()> {
     let (kind, rest) = line.split_once(' ').unwrap_or((line, ""));
-    let numbers = numbers_of(rt.alloc(), rest)?;
-    match list_of(rt.alloc(), &numbers)? {
+    let numbers: Option<Vec<usize>> = rest
+        .split_whitespace()
+        .map(|word| word.parse().ok())
+        .collect(rt.alloc())?;
+    match list_of(rt.alloc(), &numbers.unwrap_or(Vec::new(rt.alloc())))? {
         Some(list) => run_kind(rt, kind, &list),
         None => println!(rt; "no case"),
     }

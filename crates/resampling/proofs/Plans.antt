@@ -51,18 +51,18 @@ deep_enough o s t deep d h =
       | inr e ↦ deep_all deep d (stages_of o s t) (h e)
     ]
 
-pub all_runnable : (deep : Bool) (o : Settings) (work : ℕ) (sts : List Stage) → Each WellSized sts → 0 < o.channels → o.channels ≤ 4 → DeepEnough deep o.depth sts → work_of o.route o.channels sts ≤ work → AllRunnable deep o work sts
+pub all_runnable : {F : Type 0} (deep : Bool) (o : Settings F) (work : ℕ) (sts : List Stage) → Each WellSized sts → 0 < o.channels → o.channels ≤ 4 → DeepEnough deep o.depth sts → work_of o.route o.channels sts ≤ work → AllRunnable deep o work sts
 all_runnable deep o work [] z p q d w = tt
 all_runnable deep o work (st ∷ sts) z p q d w = (
   record { sized = z 0 st (omega arith); some_channels = p; few_channels = q; depth = d.0; enough = omega (arith, w) },
   all_runnable deep o work sts (λ k e l. z (suc k) e (omega arith)) p q d.1 (omega (arith, w)),
 )
 
-runnable_front : (deep : Bool) (o : Settings) (work : ℕ) (us vs : List Stage) → AllRunnable deep o work (us ++ vs) → AllRunnable deep o work us
+runnable_front : {F : Type 0} (deep : Bool) (o : Settings F) (work : ℕ) (us vs : List Stage) → AllRunnable deep o work (us ++ vs) → AllRunnable deep o work us
 runnable_front deep o work [] vs r = tt
 runnable_front deep o work (u ∷ us) vs r = (r.0, runnable_front deep o work us vs r.1)
 
-runnable_back : (deep : Bool) (o : Settings) (work : ℕ) (us vs : List Stage) → AllRunnable deep o work (us ++ vs) → AllRunnable deep o work vs
+runnable_back : {F : Type 0} (deep : Bool) (o : Settings F) (work : ℕ) (us vs : List Stage) → AllRunnable deep o work (us ++ vs) → AllRunnable deep o work vs
 runnable_back deep o work [] vs r = r
 runnable_back deep o work (u ∷ us) vs r = runnable_back deep o work us vs r.1
 
@@ -80,7 +80,7 @@ pub linked_last : (s t : ImageSize) (us : List Stage) (v : Stage) → Linked s t
 linked_last s t [] v l = l.1
 linked_last s t (u ∷ us) v l = linked_last u.target t us v l.1
 
-pub plan_runnable : (deep : Bool) (o : Settings) (scaler : Scaler) (c : ℕ) (s t : ImageSize) (sts : List Stage) (work : ℕ)
+pub plan_runnable : {F : Type 0} (deep : Bool) (o : Settings F) (scaler : Scaler) (c : ℕ) (s t : ImageSize) (sts : List Stage) (work : ℕ)
     → o.route ≡ scaler.route → o.channels ≡ c → sts ≡ stages_of scaler s t → Each WellSized sts → 0 < c → c ≤ 4
     → (is_nearest scaler.function ≡ false → deep ≡ true → (1 ≤ o.depth) × (o.depth ≤ 16)) → work_of scaler.route c (stages_of scaler s t) ≤ work
     → AllRunnable deep o work sts
@@ -90,14 +90,14 @@ plan_runnable deep o scaler c s t sts work er ec es z p q d w =
     all_runnable deep o work sts z (omega (arith, ec)) (omega (arith, ec)) deeper enough
 
 -- what a chain counts on, where the stages of a plan are h, the us and v
-pub record Parted (deep : Bool) (o : Settings) (work : ℕ) (s t : ImageSize) (sts : List Stage) (h : Stage) (us : List Stage) (v : Stage) : Type 0 where
+pub record Parted {F : Type 0} (deep : Bool) (o : Settings F) (work : ℕ) (s t : ImageSize) (sts : List Stage) (h : Stage) (us : List Stage) (v : Stage) : Type 0 where
   pub begins : h.source ≡ s
   pub linked : Linked h.target v.source us
   pub ends : v.target ≡ t
   pub ready : Runnable deep o work h × AllRunnable deep o work us × Runnable deep o work v
   pub room : (n : ℕ) → half_of o.channels sts ≤ n → Roomy o.channels n (h ∷ us)
 
-pub parted : (deep : Bool) (o : Settings) (work : ℕ) (s t : ImageSize) (sts : List Stage) (h : Stage) (us : List Stage) (v : Stage) → sts ≡ h ∷ (us ++ v ∷ []) → Linked s t sts → AllRunnable deep o work sts → Parted deep o work s t sts h us v
+pub parted : {F : Type 0} (deep : Bool) (o : Settings F) (work : ℕ) (s t : ImageSize) (sts : List Stage) (h : Stage) (us : List Stage) (v : Stage) → sts ≡ h ∷ (us ++ v ∷ []) → Linked s t sts → AllRunnable deep o work sts → Parted deep o work s t sts h us v
 parted deep o work s t sts h us v e chained runs =
     let l = subst (Linked s t) e chained in
     let r = subst (AllRunnable deep o work) e runs in

@@ -14,7 +14,7 @@ pub record RowsOf {T : Type 0} (c : ℕ) (s : ImageSize) (r : SourceRows T) : Ty
   pub height : r.height ≡ s.height
 
 -- a stage may run by these settings with a work buffer of so many elements
-pub record Runnable (deep : Bool) (o : Settings) (work : ℕ) (st : Stage) : Type 0 where
+pub record Runnable {F : Type 0} (deep : Bool) (o : Settings F) (work : ℕ) (st : Stage) : Type 0 where
   pub sized : WellSized st
   pub some_channels : 0 < o.channels
   pub few_channels : o.channels ≤ 4
@@ -22,7 +22,7 @@ pub record Runnable (deep : Bool) (o : Settings) (work : ℕ) (st : Stage) : Typ
   pub enough : work_by st.kind o.route o.channels st ≤ work
 
 -- each stage of a list may
-abbrev pub AllRunnable : Bool → Settings → ℕ → List Stage → Type 0
+abbrev pub AllRunnable : {F : Type 0} → Bool → Settings F → ℕ → List Stage → Type 0
 AllRunnable deep o work [] = Unit {0}
 AllRunnable deep o work (st ∷ sts) = Runnable deep o work st × AllRunnable deep o work sts
 

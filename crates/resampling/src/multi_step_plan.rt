@@ -17,16 +17,17 @@ use convolution::{ConvolutionOptions, KernelFamily};
 use image::{Element, ImageSize, SourceRows};
 use planner::{ResamplingPlan, Route, Stage, StageKind};
 
-// How the stages of a plan run: its route, its channels and the destination's depth.
-#[derive(Clone, Copy)]
-pub(crate) struct Settings {
+// How the stages of a plan run: its family, its route, its channels and the destination's depth.
+#[derive(Drop)]
+pub(crate) struct Settings<'a, F> {
+    pub(crate) family: &'a F,
     pub(crate) route: Route,
     pub(crate) channels: usize,
     pub(crate) depth: usize,
 }
 
-// A stage between equal sizes, and no gap. (That of `image` is its own: a public function would ask nothing of its callers.)
-#[tactic(auto, using(image::proofs::Paint::painted_none, image::proofs::Strides::row_fits))]
+// A stage between equal sizes, and no gap. (`image` keeps its own copy of rows to itself: it asks something of its callers.)
+#[tactic(auto, using(image::proofs::Paint::painted_none, image::proofs::Paint::painted_more, image::proofs::Strides::row_fits))]
 fn copy_rows<T: Element>(src: &SourceRows<'_, T>, dst: &mut [T], dst_stride: usize)
     requires { RowsFit src.now.row_length dst_stride src.now.height (length dst.old) }
     ensures { dst.new ≡ painted dst.old dst_stride (row (image_of src.now)) src.now.height }
@@ -40,18 +41,17 @@ fn copy_rows<T: Element>(src: &SourceRows<'_, T>, dst: &mut [T], dst_stride: usi
 
 // One stage, whatever it does: its value lies in the rows of `dst`, and nothing else of it changes.
 pub(crate) fn run_stage<T: Element, F: KernelFamily<T>>(
-    family: &F,
-    settings: Settings,
+    settings: &Settings<'_, F>,
     stage: Stage,
     src: &SourceRows<'_, T>,
     work: &mut [T],
     dst: &mut [T],
     dst_stride: usize,
 )
-    requires ready { Runnable T.Element.NEEDS_DEPTH settings (length work.old) stage }
-    requires source { RowsOf settings.channels stage.source src.now }
-    requires target { RowsFit (stage.target.width * settings.channels) dst_stride stage.target.height (length dst.old) }
-    ensures { dst.new ≡ painted dst.old dst_stride (row (stage_value (F.KernelFamily.meaning family.now) settings.channels settings.depth stage (image_of src.now))) stage.target.height }
+    requires ready { Runnable T.Element.NEEDS_DEPTH settings.now (length work.old) stage }
+    requires source { RowsOf settings.now.channels stage.source src.now }
+    requires target { RowsFit (stage.target.width * settings.now.channels) dst_stride stage.target.height (length dst.old) }
+    ensures { dst.new ≡ painted dst.old dst_stride (row (stage_value (F.KernelFamily.meaning settings.now.family.now) settings.now.channels settings.now.depth stage (image_of src.now))) stage.target.height }
 {
     let channels = settings.channels;
     let options = ConvolutionOptions {
@@ -71,11 +71,17 @@ pub(crate) fn run_stage<T: Element, F: KernelFamily<T>>(
             dst,
             dst_stride,
         ),
-        StageKind::Vertical => vertical_convolve(family, options, src, dst, dst_stride),
-        StageKind::Horizontal => horizontal_convolve(family, options, src, dst, dst_stride),
+        StageKind::Vertical => vertical_convolve(settings.family, options, src, dst, dst_stride),
+        StageKind::Horizontal => horizontal_convolve(
+            settings.family,
+            options,
+            src,
+            dst,
+            dst_stride,
+        ),
         StageKind::Both => both_axes_convolve(
             settings.route,
-            family,
+            settings.family,
             options,
             src,
             work,
@@ -115,51 +121,49 @@ fn packed_rows<'a, T>(half: &'a [T], size: ImageSize, channels: usize) -> Source
 }
 
 // One stage from an image without gaps to another.
+#[tactic(auto, using(crate::proofs::Packed::packed_fits, crate::proofs::Packed::stage_packed))]
 fn run_packed<T: Element, F: KernelFamily<T>>(
-    family: &F,
-    settings: Settings,
+    settings: &Settings<'_, F>,
     stage: Stage,
     src: &[T],
     work: &mut [T],
     dst: &mut [T],
 )
-    requires ready { Runnable T.Element.NEEDS_DEPTH settings (length work.old) stage }
-    requires source { area settings.channels stage.source ≤ length src.now }
-    requires target { area settings.channels stage.target ≤ length dst.old }
-    ensures { packed settings.channels stage.target dst.new ≡ stage_value (F.KernelFamily.meaning family.now) settings.channels settings.depth stage (packed settings.channels stage.source src.now) }
+    requires ready { Runnable T.Element.NEEDS_DEPTH settings.now (length work.old) stage }
+    requires source { area settings.now.channels stage.source ≤ length src.now }
+    requires target { area settings.now.channels stage.target ≤ length dst.old }
+    ensures { packed settings.now.channels stage.target dst.new ≡ stage_value (F.KernelFamily.meaning settings.now.family.now) settings.now.channels settings.now.depth stage (packed settings.now.channels stage.source src.now) }
 {
     let rows = packed_rows(src, stage.source, settings.channels);
     let dst_stride = stage.target.width * settings.channels;
-    run_stage(family, settings, stage, &rows, work, dst, dst_stride);
+    run_stage(settings, stage, &rows, work, dst, dst_stride);
 }
 
 // One stage between the halves: it reads the part that was written last, and writes the other half.
 fn turn<T: Element, F: KernelFamily<T>>(
-    family: &F,
-    settings: Settings,
+    settings: &Settings<'_, F>,
     stage: Stage,
     first: &mut [T],
     second: &mut [T],
     flipped: bool,
     work: &mut [T],
 )
-    requires ready { Runnable T.Element.NEEDS_DEPTH settings (length work.old) stage }
-    requires first { (area settings.channels stage.source ≤ length first.old) × (area settings.channels stage.target ≤ length first.old) }
-    requires second { (area settings.channels stage.source ≤ length second.old) × (area settings.channels stage.target ≤ length second.old) }
-    ensures { packed settings.channels stage.target (if not flipped then second.new else first.new) ≡ stage_value (F.KernelFamily.meaning family.now) settings.channels settings.depth stage (packed settings.channels stage.source (if flipped then second.old else first.old)) }
+    requires ready { Runnable T.Element.NEEDS_DEPTH settings.now (length work.old) stage }
+    requires first { (area settings.now.channels stage.source ≤ length first.old) × (area settings.now.channels stage.target ≤ length first.old) }
+    requires second { (area settings.now.channels stage.source ≤ length second.old) × (area settings.now.channels stage.target ≤ length second.old) }
+    ensures { packed settings.now.channels stage.target (if not flipped then second.new else first.new) ≡ stage_value (F.KernelFamily.meaning settings.now.family.now) settings.now.channels settings.now.depth stage (packed settings.now.channels stage.source (if flipped then second.old else first.old)) }
 {
     if flipped {
-        run_packed(family, settings, stage, second, work, first);
+        run_packed(settings, stage, second, work, first);
     } else {
-        run_packed(family, settings, stage, first, work, second);
+        run_packed(settings, stage, first, work, second);
     }
 }
 
 // The middle stages of a chain, from the image of size `start` in the first half on: whether the second half was
 // written last.
 fn middle<T: Element, F: KernelFamily<T>>(
-    family: &F,
-    settings: Settings,
+    settings: &Settings<'_, F>,
     stages: &[Stage],
     start: ImageSize,
     first: &mut [T],
@@ -167,24 +171,24 @@ fn middle<T: Element, F: KernelFamily<T>>(
     work: &mut [T],
 ) -> bool
     requires linked { Linked start (end_of start stages.now) stages.now }
-    requires ready { AllRunnable T.Element.NEEDS_DEPTH settings (length work.old) stages.now }
-    requires began { (area settings.channels start ≤ length first.old) × (area settings.channels start ≤ length second.old) }
-    requires room { Roomy settings.channels (length first.old) stages.now × Roomy settings.channels (length second.old) stages.now }
-    ensures value { packed settings.channels (end_of start stages.now) (if result then second.new else first.new) ≡ composed (F.KernelFamily.meaning family.now) settings.channels settings.depth stages.now (packed settings.channels start first.old) }
-    ensures room { (area settings.channels (end_of start stages.now) ≤ length first.old) × (area settings.channels (end_of start stages.now) ≤ length second.old) }
+    requires ready { AllRunnable T.Element.NEEDS_DEPTH settings.now (length work.old) stages.now }
+    requires began { (area settings.now.channels start ≤ length first.old) × (area settings.now.channels start ≤ length second.old) }
+    requires room { Roomy settings.now.channels (length first.old) stages.now × Roomy settings.now.channels (length second.old) stages.now }
+    ensures value { packed settings.now.channels (end_of start stages.now) (if result then second.new else first.new) ≡ composed (F.KernelFamily.meaning settings.now.family.now) settings.now.channels settings.now.depth stages.now (packed settings.now.channels start first.old) }
+    ensures room { (area settings.now.channels (end_of start stages.now) ≤ length first.old) × (area settings.now.channels (end_of start stages.now) ≤ length second.old) }
 {
     let mut flipped = false;
     for stage in stages {
-        turn(family, settings, *stage, first, second, flipped, work);
+        turn(settings, *stage, first, second, flipped, work);
         flipped = !flipped;
     }
     flipped
 }
 
 // A chain of two stages or more.
+#[tactic(auto, using(crate::proofs::Chained::linked_end))]
 fn run_chain<T: Element, F: KernelFamily<T>>(
-    family: &F,
-    settings: Settings,
+    settings: &Settings<'_, F>,
     head: Stage,
     inner: &[Stage],
     tail: Stage,
@@ -196,20 +200,20 @@ fn run_chain<T: Element, F: KernelFamily<T>>(
     dst_stride: usize,
 )
     requires linked { Linked head.target tail.source inner.now }
-    requires ready { Runnable T.Element.NEEDS_DEPTH settings (length work.old) head × AllRunnable T.Element.NEEDS_DEPTH settings (length work.old) inner.now × Runnable T.Element.NEEDS_DEPTH settings (length work.old) tail }
-    requires first { Roomy settings.channels (length first.old) (head ∷ inner.now) }
-    requires second { Roomy settings.channels (length second.old) (head ∷ inner.now) }
-    requires source { RowsOf settings.channels head.source src.now }
-    requires target { RowsFit (tail.target.width * settings.channels) dst_stride tail.target.height (length dst.old) }
-    ensures { dst.new ≡ painted dst.old dst_stride (row (composed (F.KernelFamily.meaning family.now) settings.channels settings.depth (head ∷ (inner.now ++ tail ∷ [])) (image_of src.now))) tail.target.height }
+    requires ready { Runnable T.Element.NEEDS_DEPTH settings.now (length work.old) head × AllRunnable T.Element.NEEDS_DEPTH settings.now (length work.old) inner.now × Runnable T.Element.NEEDS_DEPTH settings.now (length work.old) tail }
+    requires first { Roomy settings.now.channels (length first.old) (head ∷ inner.now) }
+    requires second { Roomy settings.now.channels (length second.old) (head ∷ inner.now) }
+    requires source { RowsOf settings.now.channels head.source src.now }
+    requires target { RowsFit (tail.target.width * settings.now.channels) dst_stride tail.target.height (length dst.old) }
+    ensures { dst.new ≡ painted dst.old dst_stride (row (composed (F.KernelFamily.meaning settings.now.family.now) settings.now.channels settings.now.depth (head ∷ (inner.now ++ tail ∷ [])) (image_of src.now))) tail.target.height }
 {
     let channels = settings.channels;
     let stride = head.target.width * channels;
-    run_stage(family, settings, head, src, work, first, stride);
-    let flipped = middle(family, settings, inner, head.target, first, second, work);
+    run_stage(settings, head, src, work, first, stride);
+    let flipped = middle(settings, inner, head.target, first, second, work);
     let len = tail.source.elements(channels);
     let half = packed_rows(written(first, second, flipped, len), tail.source, channels);
-    run_stage(family, settings, tail, &half, work, dst, dst_stride);
+    run_stage(settings, tail, &half, work, dst, dst_stride);
 }
 
 // All the stages of a plan, from the source to the rows of the destination. (The one scratch of the Rust is three
@@ -231,8 +235,8 @@ pub(crate) fn run_plan<T: Element, F: KernelFamily<T>>(
     requires target { RowsFit (plan.now.target_size.width * plan.now.channels) dst_stride plan.now.target_size.height (length dst.old) }
     ensures { dst.new ≡ painted dst.old dst_stride (row (composed (F.KernelFamily.meaning plan.now.family) plan.now.channels depth (plan_stages plan.now) (image_of src.now))) plan.now.target_size.height }
 {
-    let family = plan.family();
     let settings = Settings {
+        family: plan.family(),
         route: plan.scaler().route,
         channels: plan.channels(),
         depth,
@@ -240,8 +244,8 @@ pub(crate) fn run_plan<T: Element, F: KernelFamily<T>>(
     let stages = plan.stages();
     match stages {
         [head, inner @ .., tail] => run_chain(
-            family, settings, *head, inner, *tail, src, work, first, second, dst, dst_stride,
+            &settings, *head, inner, *tail, src, work, first, second, dst, dst_stride,
         ),
-        _ => run_stage(family, settings, stages[0], src, work, dst, dst_stride),
+        _ => run_stage(&settings, stages[0], src, work, dst, dst_stride),
     }
 }

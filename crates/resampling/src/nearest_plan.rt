@@ -25,6 +25,7 @@ impl Scale {
     }
 
     // The source pixel of the target pixel `x`.
+    #[tactic(auto, using(values::proofs::Within::nearest_below), unfolding(values::specs::Nearest::nearest))]
     fn position(&self, x: usize) -> usize
         requires { x < self.now.target }
         ensures value { result ≡ nearest self.now.source self.now.target x }
@@ -35,6 +36,7 @@ impl Scale {
 }
 
 // One row of pixels of one element each.
+#[tactic(auto, using(crate::proofs::Taken::taken_row))]
 fn nearest_row_of_elements<T: Element>(across: &Scale, src: &[T], dst: &mut [T])
     requires source { length src.now ≡ across.now.source }
     requires target { length dst.old ≡ across.now.target }
@@ -46,7 +48,7 @@ fn nearest_row_of_elements<T: Element>(across: &Scale, src: &[T], dst: &mut [T])
 }
 
 // One row of pixels of N elements, each copied as a whole. (`as_chunks_mut` tells nothing of what the row ends as.)
-#[tactic(auto, using(image::proofs::Paint::painted_none))]
+#[tactic(auto, using(image::proofs::Paint::painted_none, image::proofs::Paint::painted_more))]
 fn nearest_row_of_pixels<T: Element, const N: usize>(across: &Scale, src: &[T], dst: &mut [T])
     requires channels { N ≤ 4 }
     requires source { length src.now ≡ across.now.source * N }
@@ -76,7 +78,7 @@ fn nearest_row<T: Element>(across: &Scale, channels: usize, src: &[T], dst: &mut
 }
 
 // All rows: the source's row once for each of the destination's.
-#[tactic(auto, using(image::proofs::Paint::painted_none))]
+#[tactic(auto, using(image::proofs::Paint::painted_none, image::proofs::Paint::painted_more, crate::proofs::Sampled::sampled_row))]
 pub(crate) fn nearest_rows<T: Element>(
     channels: usize,
     source: ImageSize,

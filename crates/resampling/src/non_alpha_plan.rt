@@ -14,6 +14,7 @@ use image::{Element, SourceRows};
 use planner::Route;
 
 // Column values to the target's height.
+#[tactic(auto, using(crate::proofs::Runs::vertical_run))]
 pub(crate) fn vertical_convolve<T: Element, F: KernelFamily<T>>(
     family: &F,
     options: ConvolutionOptions,
@@ -31,6 +32,7 @@ pub(crate) fn vertical_convolve<T: Element, F: KernelFamily<T>>(
 }
 
 // Row values to the target's width.
+#[tactic(auto, using(crate::proofs::Runs::horizontal_run))]
 pub(crate) fn horizontal_convolve<T: Element, F: KernelFamily<T>>(
     family: &F,
     options: ConvolutionOptions,
@@ -48,6 +50,7 @@ pub(crate) fn horizontal_convolve<T: Element, F: KernelFamily<T>>(
 }
 
 // Both axes on route Whole: the vertical image, without gaps in the work buffer, and its row values.
+#[tactic(auto, using(crate::proofs::Packed::gapless, crate::proofs::Runs::whole_room))]
 pub(crate) fn whole_convolve<T: Element, F: KernelFamily<T>>(
     family: &F,
     options: ConvolutionOptions,

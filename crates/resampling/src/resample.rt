@@ -1,5 +1,5 @@
 // The resample call and the window call on a sheet.
-ghost use Rattle.std.specs.Prelude.{◌≡◌, ℕ, false, not, ◌&&◌, ◌||◌, List, [], ◌∷◌, length, is_ok, if◌then◌else◌};
+ghost use Rattle.std.specs.Prelude.{◌≡◌, ℕ, false, not, ◌&&◌, ◌||◌, List, [], ◌∷◌, length, is_ok, if◌then◌else◌, nat_lt};
 ghost use Rattle.image.specs.Refusals.{reply, check, answer};
 ghost use Rattle.image.specs.Stores.{elements_mut, laid};
 ghost use Rattle.sampler.specs.Functions.{is_nearest};
@@ -61,6 +61,16 @@ fn needs_depth<T: Element>(function: ResamplingFunction) -> bool
     T::should_have_bit_depth() && function != ResamplingFunction::Nearest
 }
 
+// Whether a buffer of `size` elements has the room that is expected.
+fn check_room(expected: usize, size: usize) -> Result<(), PicScaleError>
+    ensures { reply result ≡ answer (check (nat_lt size expected) 8 (expected ∷ size ∷ []) ∷ []) }
+{
+    if size < expected {
+        return Err(PicScaleError::InvalidScratchSize { expected, size });
+    }
+    Ok(())
+}
+
 // The buffers of a call whose sizes are not equal, and its depth.
 fn check_buffers<T: Element, F>(
     plan: &ResamplingPlan<T, F>,
@@ -71,27 +81,10 @@ fn check_buffers<T: Element, F>(
 ) -> Result<(), PicScaleError>
     ensures { reply result ≡ answer (buffer_checks T.Element.NEEDS_DEPTH (request_of plan.now) depth work first second) }
 {
-    let size = plan.scratch_size();
-    if work < size {
-        return Err(PicScaleError::InvalidScratchSize {
-            expected: size,
-            size: work,
-        });
-    }
-    let half = plan.half_size();
-    if first < half {
-        return Err(PicScaleError::InvalidScratchSize {
-            expected: half,
-            size: first,
-        });
-    }
-    if second < half {
-        return Err(PicScaleError::InvalidScratchSize {
-            expected: half,
-            size: second,
-        });
-    }
-    if needs_depth::<T>(plan.scaler().function) && (depth < 1 || depth > 16) {
+    check_room(plan.scratch_size(), work)?;
+    check_room(plan.half_size(), first)?;
+    check_room(plan.half_size(), second)?;
+    if needs_depth::<T>(plan.scaler().function) && !(1..=16).contains(&depth) {
         return Err(PicScaleError::UnsupportedBitDepth(depth));
     }
     Ok(())

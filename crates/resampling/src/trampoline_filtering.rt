@@ -12,7 +12,7 @@ use convolution::{ConvolutionOptions, KernelFamily};
 use image::{Element, SourceRows};
 
 // The column values of four rows from row `y` on, one after the other.
-#[tactic(auto, using(image::proofs::Paint::painted_none))]
+#[tactic(auto, using(image::proofs::Paint::painted_none, image::proofs::Paint::painted_more))]
 fn run_on_4_columns<T: Element, F: KernelFamily<T>>(
     family: &F,
     options: ConvolutionOptions,
@@ -81,7 +81,7 @@ fn filter_row<T: Element, F: KernelFamily<T>>(
 }
 
 // All rows of the target: batches of four where the family offers them, and the remaining rows singly.
-#[tactic(auto, using(image::proofs::Paint::painted_none))]
+#[tactic(auto, using(image::proofs::Paint::painted_none, image::proofs::Paint::painted_more))]
 pub(crate) fn trampoline_filter<T: Element, F: KernelFamily<T>>(
     family: &F,
     options: ConvolutionOptions,

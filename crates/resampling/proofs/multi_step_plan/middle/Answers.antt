@@ -10,9 +10,9 @@ use Rattle.resampling.proofs.multi_step_plan.middle.Goals as goal
 
 pub loop-stage-preserved : goal.loop-stage-preserved
 loop-stage-preserved g c =
-    let k = c.args.settings.channels in
-    let d = c.args.settings.depth in
-    let m = g.F.KernelFamily.meaning c.args.family.now in
+    let k = c.args.settings.now.channels in
+    let d = c.args.settings.now.depth in
+    let m = g.F.KernelFamily.meaning c.args.settings.now.family.now in
     let xs = c.args.stages.now in
     let i = c.loop-stage.stage-index in
     let st = get_or xs i blank in

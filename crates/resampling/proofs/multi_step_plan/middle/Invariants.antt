@@ -11,7 +11,7 @@ invariant-loop-stage g l =
     let left = drop l.stage-index l.stages in
     let size = end_of l.fn.start (take l.stage-index l.stages) in
     let c = l.settings.channels in
-    let m = g.F.KernelFamily.meaning l.family in
+    let m = g.F.KernelFamily.meaning l.settings.family.now in
     Linked size (end_of l.fn.start l.stages) left
     × ((area c size ≤ length l.first) × (area c size ≤ length l.second))
     × AllRunnable g.T.Element.NEEDS_DEPTH l.settings (length l.work) left

@@ -1,8 +1,7 @@
-use Rattle.std.proofs.Common.{◌≡◌, ◌*◌, cond, [], ◌∷◌, length, sym, ap, ◌∙◌, subst, arith, length-take-le}
+use Rattle.std.proofs.Common.{◌≡◌, ◌*◌, cond, [], ◌∷◌, length, sym, ap, ◌∙◌, arith, length-take-le}
 use Rattle.image.specs.Images.{image_of}
 use Rattle.image.specs.Rows.{row, painted}
 use Rattle.image.specs.declared.image_size.ImageSize.{ImageSize}
-use Rattle.planner.specs.Chains.{Linked}
 use Rattle.planner.specs.Plans.{area}
 use Rattle.values.specs.Values.{stage_value, composed}
 use Rattle.resampling.specs.Running.{packed}
@@ -10,15 +9,9 @@ use Rattle.resampling.proofs.Packed.{exact_area, packed_fits, stage_packed}
 use Rattle.resampling.proofs.Chained.{linked_end, composed_append, rows_take, either_long}
 use Rattle.resampling.proofs.multi_step_plan.run_chain.Goals as goal
 
-pub middle-flipped-requires-clause-linked : goal.middle-flipped-requires-clause-linked
-middle-flipped-requires-clause-linked g c =
-    let t = c.args.head.target in
-    let sts = c.args.inner.now in
-    subst (λ (z : ImageSize). Linked t z sts) (sym (linked_end t c.args.tail.source sts c.requires.linked)) c.requires.linked
-
 pub written-requires : goal.written-requires
 written-requires g c =
-    let k = c.args.settings.channels in
+    let k = c.args.settings.now.channels in
     let t = c.args.tail.source in
     let e = exact_area k t c.elements-len.result c.requires.ready.2.sized.source c.requires.ready.0.few_channels c.elements-len.ensures in
     let ends = ap (area k) (linked_end c.args.head.target t c.args.inner.now c.requires.linked) in
@@ -27,7 +20,7 @@ written-requires g c =
 
 pub packed_rows-half-requires-clause-held : goal.packed_rows-half-requires-clause-held
 packed_rows-half-requires-clause-held g c =
-    let k = c.args.settings.channels in
+    let k = c.args.settings.now.channels in
     let t = c.args.tail.source in
     let e = exact_area k t c.elements-len.result c.requires.ready.2.sized.source c.requires.ready.0.few_channels c.elements-len.ensures in
     let ends = ap (area k) (linked_end c.args.head.target t c.args.inner.now c.requires.linked) in
@@ -38,9 +31,9 @@ packed_rows-half-requires-clause-held g c =
 
 pub returns : goal.returns
 returns g c =
-    let k = c.args.settings.channels in
-    let d = c.args.settings.depth in
-    let m = g.F.KernelFamily.meaning c.args.family.now in
+    let k = c.args.settings.now.channels in
+    let d = c.args.settings.now.depth in
+    let m = g.F.KernelFamily.meaning c.args.settings.now.family.now in
     let h = c.args.head in
     let t = c.args.tail.source in
     let sts = c.args.inner.now in
@@ -48,7 +41,7 @@ returns g c =
     let buffer = cond c.middle-flipped.result c.middle-flipped.new.second c.middle-flipped.new.first in
     let ends = linked_end h.target t sts c.requires.linked in
     let began : packed k h.target c.run_stage.new.dst ≡ stage_value m k d h src =
-    stage_packed m k d (g.met.F.KernelFamily.shaped c.args.family.now) h c.args.src.now c.args.first.now c.run_stage.new.dst c.requires.ready.0.sized c.requires.source c.requires.first.0 c.run_stage.ensures in
+    stage_packed m k d (g.met.F.KernelFamily.shaped c.args.settings.now.family.now) h c.args.src.now c.args.first.now c.run_stage.new.dst c.requires.ready.0.sized c.requires.source c.requires.first.0 c.run_stage.ensures in
     let e = exact_area k t c.elements-len.result c.requires.ready.2.sized.source c.requires.ready.0.few_channels c.elements-len.ensures in
     let fits = packed_fits k t c.elements-len.result c.requires.ready.2.sized.source.1.0 (omega arith) in
     let last : image_of c.packed_rows-half.result ≡ composed m k d sts (stage_value m k d h src) =

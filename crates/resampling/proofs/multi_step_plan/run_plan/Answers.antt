@@ -14,7 +14,7 @@ run_stage-requires-clause-ready g c =
     let p = c.args.plan.now in
     let plan = c.stages-stages.ensures in
     let sts = c.stages-stages.result.now in
-    let o : Settings = record { route = c.scaler.result.route; channels = c.channels.result; depth = c.args.depth } in
+    let o : Settings g.row.F.Denot = record { family = c.family.result; route = c.scaler.result.route; channels = c.channels.result; depth = c.args.depth } in
     let all = plan_runnable g.T.Element.NEEDS_DEPTH o p.scaler p.channels p.source_size p.target_size sts _ (ap (λ (z : Scaler). z.route) c.scaler.ensures) c.channels.ensures plan.value plan.chain.sized p.pixels.0 p.pixels.1 c.requires.depth c.requires.work in
     (subst (AllRunnable g.T.Element.NEEDS_DEPTH o _) (only sts blank (omega (arith, plan.chain.some))) all).0
 
@@ -23,7 +23,7 @@ run_chain-requires g c =
     let p = c.args.plan.now in
     let plan = c.stages-stages.ensures in
     let sts = c.stages-stages.result.now in
-    let o : Settings = record { route = c.scaler.result.route; channels = c.channels.result; depth = c.args.depth } in
+    let o : Settings g.row.F.Denot = record { family = c.family.result; route = c.scaler.result.route; channels = c.channels.result; depth = c.args.depth } in
     let all = plan_runnable g.T.Element.NEEDS_DEPTH o p.scaler p.channels p.source_size p.target_size sts _ (ap (λ (z : Scaler). z.route) c.scaler.ensures) c.channels.ensures plan.value plan.chain.sized p.pixels.0 p.pixels.1 c.requires.depth c.requires.work in
     let k = length sts - 1 in
     let h = get_or sts 0 blank in
@@ -53,4 +53,4 @@ returns-in-len2-up g c =
     let parts = split sts blank k (omega arith) (omega arith) in
     let linked = subst (Linked p.source_size p.target_size) parts plan.chain.linked in
     c.run_chain.ensures
-    ∙ same_value _ _ _ _ _ _ _ _ (h ∷ (mid ++ t ∷ [])) _ _ _ (ap g.F.KernelFamily.meaning c.family-family.ensures) c.channels.ensures (sym parts ∙ plan.value) (linked_last h.target p.target_size mid t linked.1)
+    ∙ same_value _ _ _ _ _ _ _ _ (h ∷ (mid ++ t ∷ [])) _ _ _ (ap g.F.KernelFamily.meaning c.family.ensures) c.channels.ensures (sym parts ∙ plan.value) (linked_last h.target p.target_size mid t linked.1)

@@ -1,21 +1,10 @@
-use Rattle.std.proofs.Common.{length, ap, ◌∙◌, arith}
+use Rattle.std.proofs.Common.{length, ap, ◌∙◌}
 use Rattle.image.specs.Images.{image_of}
 use Rattle.image.specs.Rows.{rows, painted}
 use Rattle.convolution.specs.Meaning.{source_row, column_value, row_value}
 use Rattle.resampling.proofs.Packed.{gapless, source_sized}
 use Rattle.resampling.proofs.Runs.{whole_room, both_run, across_packed}
 use Rattle.resampling.proofs.non_alpha_plan.whole_convolve.Goals as goal
-
-pub filter_columns-requires-clause-target : goal.filter_columns-requires-clause-target
-filter_columns-requires-clause-target g c =
-    let o = c.args.options in
-    rw c.requires.source.width (gapless (source_row o) o.dst_size.height (length c.args.work.now) c.requires.ready.target_height.0 (whole_room o.src_size.width o.dst_size.height o.channels (length c.args.work.now) c.requires.work))
-
-pub invariant_of-tall : goal.invariant_of-tall
-invariant_of-tall g c =
-    let o = c.args.options in
-    let room = whole_room o.src_size.width o.dst_size.height o.channels (length c.args.work.now) c.requires.work in
-    record { fit = rw c.requires.source.width (gapless (source_row o) o.dst_size.height (length c.filter_columns.new.dst) c.requires.ready.target_height.0 (omega arith)) }
 
 pub returns : goal.returns
 returns g c =

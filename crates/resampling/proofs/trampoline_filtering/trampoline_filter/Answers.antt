@@ -2,7 +2,6 @@ use Rattle.std.proofs.Common.{◌≡◌, ℕ, ◌+◌, ◌-◌, ◌*◌, ◌<◌
 use Rattle.std.proofs.lemmas.Bool.Decides.{nat_tests}
 use Rattle.image.specs.Images.{image_of}
 use Rattle.image.specs.Rows.{painted}
-use Rattle.image.proofs.Paint.{painted_more}
 use Rattle.image.proofs.Painted.{painted_batch}
 use Rattle.image.proofs.Strides.{row_fits}
 use Rattle.convolution.specs.Meaning.{source_row, target_row}
@@ -44,10 +43,6 @@ loop-batch-preserved g c =
     (λ i l. each_of_four i t _ (target_row o) _ l (even (y + i)) (omega arith))
     (λ i l. refl)
     ∙ ap (painted c.args.dst.now t rows) (omega arith)
-
-pub loop-y-preserved : goal.loop-y-preserved
-loop-y-preserved g c =
-    painted_more c.args.dst.now c.loop-y.dst c.filter_row.new.dst c.args.dst_stride c.loop-y.y _ _ _ c.loop-y.invariant refl (search rules) (search rules)
 
 pub returns : goal.returns
 returns g c =

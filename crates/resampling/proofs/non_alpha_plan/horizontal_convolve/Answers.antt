@@ -1,7 +1,0 @@
-use Rattle.std.proofs.Common.{◌∙◌}
-use Rattle.image.specs.Images.{image_of}
-use Rattle.resampling.proofs.Runs.{horizontal_run}
-use Rattle.resampling.proofs.non_alpha_plan.horizontal_convolve.Goals as goal
-
-pub returns : goal.returns
-returns g c = c.filter_rows.ensures ∙ horizontal_run (g.F.KernelFamily.meaning c.args.family.now) c.args.options (image_of c.args.src.now) c.args.dst.now c.args.dst_stride c.args.src.now.height (c.requires.source.height ∙ c.requires.height)
