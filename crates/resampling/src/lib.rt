@@ -5,6 +5,7 @@ pub mod multi_step_plan;
 pub mod nearest_plan;
 pub mod non_alpha_plan;
 pub mod resample;
+pub mod run;
 pub mod scale;
 pub mod trampoline_filtering;
 

@@ -12,7 +12,7 @@ ghost use Rattle.values.specs.Values.{stage_value, composed};
 ghost use Rattle.resampling.specs.Running.{RowsOf, Runnable, AllRunnable, Roomy, packed, end_of};
 
 use crate::nearest_plan::nearest_rows;
-use crate::non_alpha_plan::{both_axes_convolve, horizontal_convolve, vertical_convolve};
+use crate::run::Run;
 use convolution::{ConvolutionOptions, KernelFamily};
 use image::{Element, ImageSize, SourceRows};
 use planner::{ResamplingPlan, Route, Stage, StageKind};
@@ -71,23 +71,30 @@ pub(crate) fn run_stage<T: Element, F: KernelFamily<T>>(
             dst,
             dst_stride,
         ),
-        StageKind::Vertical => vertical_convolve(settings.family, options, src, dst, dst_stride),
-        StageKind::Horizontal => horizontal_convolve(
-            settings.family,
-            options,
-            src,
-            dst,
-            dst_stride,
-        ),
-        StageKind::Both => both_axes_convolve(
-            settings.route,
-            settings.family,
-            options,
-            src,
-            work,
-            dst,
-            dst_stride,
-        ),
+        StageKind::Vertical => {
+            let run = Run {
+                family: settings.family,
+                options,
+                src,
+            };
+            run.vertical_convolve(dst, dst_stride)
+        }
+        StageKind::Horizontal => {
+            let run = Run {
+                family: settings.family,
+                options,
+                src,
+            };
+            run.horizontal_convolve(dst, dst_stride)
+        }
+        StageKind::Both => {
+            let run = Run {
+                family: settings.family,
+                options,
+                src,
+            };
+            run.both_axes_convolve(settings.route, work, dst, dst_stride)
+        }
     }
 }
 

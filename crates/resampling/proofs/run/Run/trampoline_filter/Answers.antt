@@ -8,7 +8,7 @@ use Rattle.convolution.specs.Meaning.{source_row, target_row}
 use Rattle.resampling.specs.Runs.{both_row}
 use Rattle.resampling.proofs.Packed.{source_sized}
 use Rattle.resampling.proofs.Runs.{both_run, both_even}
-use Rattle.resampling.proofs.trampoline_filtering.trampoline_filter.Goals as goal
+use Rattle.resampling.proofs.run.Run.trampoline_filter.Goals as goal
 
 -- the last of four rows from row y on lies within the buffer
 last_of_four : (y h s n size : ℕ) → y + 4 ≤ h → s * (h - 1) + n ≤ size → y * s + 3 * s + n ≤ size
@@ -26,19 +26,19 @@ four_rows n h size l fits =
 
 pub filter_4_rows-requires-clause-target : goal.filter_4_rows-requires-clause-target
 filter_4_rows-requires-clause-target g c =
-    let o = c.args.options in
+    let o = c.args.self.now.options in
     let t = c.args.dst_stride in
     let far = last_of_four (4 * c.loop-batch.batch) o.dst_size.height t (target_row o) (length c.loop-batch.dst) (omega arith) (omega arith) in
     record { apart = c.requires.target.apart; within = simp (length-take, length-drop) (omega arith) }
 
 pub loop-batch-preserved : goal.loop-batch-preserved
 loop-batch-preserved g c =
-    let o = c.args.options in
+    let o = c.args.self.now.options in
     let t = c.args.dst_stride in
     let y = 4 * c.loop-batch.batch in
-    let rows = both_row (g.F.KernelFamily.meaning c.args.family.now) o (image_of c.args.src.now) in
+    let rows = both_row (g.F.KernelFamily.meaning c.args.self.now.family.now) o (image_of c.args.self.now.src.now) in
     let far = last_of_four y o.dst_size.height t (target_row o) (length c.loop-batch.dst) (omega arith) (omega arith) in
-    let even = both_even (g.F.KernelFamily.meaning c.args.family.now) o (image_of c.args.src.now) (g.met.F.KernelFamily.shaped c.args.family.now) c.requires.ready.source_height.0 (source_sized c.args.src.now (source_row o) o.src_size.height c.requires.source.width c.requires.source.height) c.requires.ready.source_width.0 in
+    let even = both_even (g.F.KernelFamily.meaning c.args.self.now.family.now) o (image_of c.args.self.now.src.now) (g.met.F.KernelFamily.shaped c.args.self.now.family.now) c.args.self.now.ready.source_height.0 (source_sized c.args.self.now.src.now (source_row o) o.src_size.height c.args.self.now.source.width c.args.self.now.source.height) c.args.self.now.ready.source_width.0 in
     painted_batch c.args.dst.now c.loop-batch.dst c.filter_4_rows.new.dst t y (y * t) _ 4 rows (λ i. rows (y + i)) c.loop-batch.invariant refl c.filter_4_rows.ensures (omega arith)
     (λ i l. each_of_four i t _ (target_row o) _ l (even (y + i)) (omega arith))
     (λ i l. refl)
@@ -46,9 +46,9 @@ loop-batch-preserved g c =
 
 pub returns : goal.returns
 returns g c =
-    let o = c.args.options in
-    let m = g.F.KernelFamily.meaning c.args.family.now in
-    let im = image_of c.args.src.now in
+    let o = c.args.self.now.options in
+    let m = g.F.KernelFamily.meaning c.args.self.now.family.now in
+    let im = image_of c.args.self.now.src.now in
     let all : c.loop-y.y ≡ o.dst_size.height = omega arith in
     c.loop-y.invariant
     ∙ (ap (painted c.args.dst.now c.args.dst_stride (both_row m o im)) all
@@ -56,20 +56,20 @@ returns g c =
 
 pub offset_bounds-dst-y : goal.offset_bounds-dst-y
 offset_bounds-dst-y g c =
-    let w = row_fits (4 * c.loop-batch.batch) c.args.options.dst_size.height c.args.dst_stride (target_row c.args.options) (length c.loop-batch.dst) (omega arith) (omega arith) in
+    let w = row_fits (4 * c.loop-batch.batch) c.args.self.now.options.dst_size.height c.args.dst_stride (target_row c.args.self.now.options) (length c.loop-batch.dst) (omega arith) (omega arith) in
     search rules
 
 pub slice_bounds-filter_4_rows-count : goal.slice_bounds-filter_4_rows-count
 slice_bounds-filter_4_rows-count g c =
-    let w = row_fits (4 * c.loop-batch.batch) c.args.options.dst_size.height c.args.dst_stride (target_row c.args.options) (length c.loop-batch.dst) (omega arith) (omega arith) in
+    let w = row_fits (4 * c.loop-batch.batch) c.args.self.now.options.dst_size.height c.args.dst_stride (target_row c.args.self.now.options) (length c.loop-batch.dst) (omega arith) (omega arith) in
     search rules
 
 pub slice_bounds-filter_4_rows-start : goal.slice_bounds-filter_4_rows-start
 slice_bounds-filter_4_rows-start g c =
-    let w = row_fits (4 * c.loop-batch.batch) c.args.options.dst_size.height c.args.dst_stride (target_row c.args.options) (length c.loop-batch.dst) (omega arith) (omega arith) in
+    let w = row_fits (4 * c.loop-batch.batch) c.args.self.now.options.dst_size.height c.args.dst_stride (target_row c.args.self.now.options) (length c.loop-batch.dst) (omega arith) (omega arith) in
     search rules
 
 pub offset_bounds-dst-to : goal.offset_bounds-dst-to
 offset_bounds-dst-to g c =
-    let w = row_fits c.loop-y.y c.args.options.dst_size.height c.args.dst_stride (target_row c.args.options) (length c.loop-y.dst) (omega arith) (omega arith) in
+    let w = row_fits c.loop-y.y c.args.self.now.options.dst_size.height c.args.dst_stride (target_row c.args.self.now.options) (length c.loop-y.dst) (omega arith) (omega arith) in
     search rules
