@@ -98,7 +98,7 @@ def twins(all_functions):
     structs = collections.defaultdict(list)
     for file in sorted(glob.glob('crates/*/src/*.rt')):
         for m in re.finditer(r'struct (\w+)[^{;]*\{\n((?:    [^}].*\n)+)\}', open(file).read()):
-            fields = frozenset(re.findall(r'^    (?:pub(?:\(crate\))? )?(\w+): \w', m.group(2), re.M))
+            fields = frozenset(re.findall(r'^    (?:pub(?:\(crate\))? )?(\w+): [\w&]', m.group(2), re.M))
             structs[fields].append(f'{file} {m.group(1)}')
     for fields, names in structs.items():
         if len(names) > 1 and len(fields) > 2:

@@ -37,7 +37,7 @@ impl From<PicScaleError> for Values {
     ghost from_gives = { λ fault r. r ≡ six (values_of fault) };
 
     fn from(fault: PicScaleError) -> Values {
-        let values: [usize; 6] = match fault {
+        Values::from(match fault {
             PicScaleError::BufferMismatch {
                 expected,
                 width,
@@ -75,8 +75,7 @@ impl From<PicScaleError> for Values {
                 image_height,
             } => [x, y, width, height, image_width, image_height],
             _ => [0; 6],
-        };
-        Values::from(values)
+        })
     }
 }
 

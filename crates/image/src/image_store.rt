@@ -90,7 +90,7 @@ impl<'a, T: Element> ImageStore<'a, T> {
 }
 
 impl<'a, T: Element> ImageStoreMut<'a, T> {
-    // The store check of a destination.
+    // The store check of a destination. (A trait over both stores, for one line that differs, would be longer.)
     pub fn validate(&self) -> Result<(), PicScaleError>
         ensures { reply result ≡ target_answer T.Element.BYTES self.now.numbers (length (elements_mut self.now)) }
     {

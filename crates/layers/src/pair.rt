@@ -1,4 +1,5 @@
-// Two families as one: the first that knows a function supplies its values.
+// Two families as one: the first that knows a function supplies its values. Each run chooses for itself: a choice made once
+// would have to hand on one of two types, in a box or by a name for every run.
 ghost use Rattle.std.specs.Prelude.{true};
 ghost use Rattle.layers.specs.Layers.{pair_of};
 ghost use Rattle.layers.specs.Shapes.{pair_shaped};

@@ -163,6 +163,7 @@ impl<T: Element, K: LineKernel<T>> KernelFamily<T> for Lines<K> {
             source: options.src_size.width,
             target: options.dst_size.width,
         };
+        // A constant parameter has to be chosen by a match, here and for four rows.
         match options.channels {
             1 => row_of_pixels::<T, K, 1>(&self.kernel, src, &axis, dst),
             2 => row_of_pixels::<T, K, 2>(&self.kernel, src, &axis, dst),
@@ -179,6 +180,7 @@ impl<T: Element, K: LineKernel<T>> KernelFamily<T> for Lines<K> {
         dst: &mut [T],
         dst_stride: usize,
     ) {
+        // By row number, as pixels are: of what `chunks_mut` lends a proof keeps no element.
         let m = options.dst_size.width * options.channels;
         let whole = src.height / 4 * 4;
         for y in (0..whole).step_by(4) {

@@ -59,7 +59,7 @@ impl Scaler {
     }
 }
 
-// What a caller gets who asks for nothing else.
+// What a caller gets who asks for nothing else. (A derive would need a default of every field, and a function has none.)
 impl Default for Scaler {
     ghost is_default = { λ r. r ≡ record { function = Mitchell; multi_step_upscaling = false; supersampling = false; route = ByBatches } };
 

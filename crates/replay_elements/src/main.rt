@@ -150,6 +150,7 @@ fn replay(rt: &HostRuntime, line: &str) -> io::Result<()> {
     }
 }
 
+// Each program over lines has this loop: a function for it would take a closure, and be no shorter.
 fn main(rt: HostRuntime) -> io::Result<()> {
     for line in rt.lines(rt.alloc()) {
         let line = line?;

@@ -26,7 +26,8 @@ pub(crate) struct Settings<'a, F> {
     pub(crate) depth: usize,
 }
 
-// A stage between equal sizes, and no gap. (`image` keeps its own copy of rows to itself: it asks something of its callers.)
+// A stage between equal sizes, and no gap. By row number: of what `chunks_mut` lends a proof keeps no element. (`image`
+// keeps its own copy of rows to itself: it asks something of its callers, as no public function does.)
 #[tactic(auto, using(image::proofs::Paint::painted_none, image::proofs::Paint::painted_more, image::proofs::Strides::row_fits))]
 fn copy_rows<T: Element>(src: &SourceRows<'_, T>, dst: &mut [T], dst_stride: usize)
     requires { RowsFit src.now.row_length dst_stride src.now.height (length dst.old) }

@@ -77,7 +77,7 @@ fn nearest_row<T: Element>(across: &Scale, channels: usize, src: &[T], dst: &mut
     }
 }
 
-// All rows: the source's row once for each of the destination's.
+// All rows: the source's row once for each of the destination's, by row number as in `copy_rows`.
 #[tactic(auto, using(image::proofs::Paint::painted_none, image::proofs::Paint::painted_more, crate::proofs::Sampled::sampled_row))]
 pub(crate) fn nearest_rows<T: Element>(
     channels: usize,

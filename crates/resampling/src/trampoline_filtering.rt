@@ -12,7 +12,7 @@ use convolution::KernelFamily;
 use image::{Element, SourceRows};
 
 impl<T: Element, F: KernelFamily<T>> Run<'_, T, F> {
-    // The column values of four rows from row `y` on, one after the other.
+    // The column values of four rows from row `y` on, one after the other, by row number as in `copy_rows`.
     #[tactic(auto, using(image::proofs::Paint::painted_none, image::proofs::Paint::painted_more))]
     fn run_on_4_columns(&self, y: usize, work: &mut [T])
         requires batch { y + 4 ≤ self.now.options.dst_size.height }
@@ -56,7 +56,7 @@ impl<T: Element, F: KernelFamily<T>> Run<'_, T, F> {
         self.family.run_on_row(self.options, work, dst);
     }
 
-    // All rows of the target: batches of four where the family offers them, and the remaining rows singly.
+    // All rows of the target, by row number: batches of four where the family offers them, and the remaining rows singly.
     #[tactic(auto, using(image::proofs::Paint::painted_none, image::proofs::Paint::painted_more))]
     pub(crate) fn trampoline_filter(&self, work: &mut [T], dst: &mut [T], dst_stride: usize)
         requires work { run_work ByBatches self.now.options ≤ length work.old }
