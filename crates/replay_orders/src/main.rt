@@ -21,8 +21,10 @@ fn digit(b: u8) -> u8 {
 
 // The bytes that a line of hexadecimal stands for.
 fn decode(heap: Global, line: &[u8]) -> Result<Vec<u8>, AllocError> {
-    line.chunks_exact(2)
-        .map(|pair| 16 * digit(pair[0]) + digit(pair[1]))
+    let (pairs, _) = line.as_chunks::<2>();
+    pairs
+        .iter()
+        .map(|[high, low]| digit(*high).wrapping_mul(16) | digit(*low))
         .collect(heap)
 }
 
