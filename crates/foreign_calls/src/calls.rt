@@ -110,6 +110,7 @@ pub fn call_by<T: Element, F: KernelFamily<T>>(
         buffer: into,
         numbers: *sheet,
     };
+    // An Option is taken apart, once.
     match window {
         None => resample_with_scratch(&plan, &source, &mut sheet, work, first, second),
         Some(part) => resample_window(&plan, &source, &mut sheet, part, work, first, second),

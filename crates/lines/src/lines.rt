@@ -18,7 +18,8 @@ pub struct Lines<K> {
 }
 
 // The output `x` of every channel of a row of pixels of N elements. The pixel is handed back whole, so that the compiler
-// need not keep its elements apart from those of the source.
+// need not keep its elements apart from those of the source. That N is not 0 and that `x` is an output stay clauses: a
+// constant has no invariant, and a struct of axis and output would be made anew for each pixel.
 fn pixel_of_row<T: Element, K: LineKernel<T>, const N: usize>(
     kernel: &K,
     place: K::Place,

@@ -12,7 +12,7 @@ use crate::task::Task;
 use image::ImageSize;
 use std::marker::PhantomData;
 
-// The largest work buffer of any stage.
+// The largest work buffer of any stage. (A type for a number of channels would be taken apart at each product.)
 fn largest_scratch(steps: &[Stage], route: Route, channels: usize) -> usize
     requires sized { Each WellSized steps.now }
     requires channels { channels ≤ 4 }

@@ -186,7 +186,7 @@ fn run<T: Numbered, F: KernelFamily<T> + Default>(
     println!(rt; "")
 }
 
-// By the kind's element type and family.
+// By the kind's element type and family: a table of functions would name the same four.
 fn run_kind(rt: &HostRuntime, kind: &str, list: &List<'_>) -> io::Result<()> {
     match kind {
         "u8" => run::<u8, Pair<Tent, Span>>(rt, list),

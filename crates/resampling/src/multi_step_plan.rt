@@ -40,7 +40,8 @@ fn copy_rows<T: Element>(src: &SourceRows<'_, T>, dst: &mut [T], dst_stride: usi
     }
 }
 
-// One stage, whatever it does: its value lies in the rows of `dst`, and nothing else of it changes.
+// One stage, whatever it does: its value lies in the rows of `dst`, and nothing else of it changes. The kinds are data of a
+// plan and a closed set, so a match says at once what each does; closures for them would be made at each stage.
 pub(crate) fn run_stage<T: Element, F: KernelFamily<T>>(
     settings: &Settings<'_, F>,
     stage: Stage,
@@ -128,7 +129,8 @@ fn packed_rows<'a, T>(half: &'a [T], size: ImageSize, channels: usize) -> Source
     }
 }
 
-// One stage from an image without gaps to another.
+// One stage from an image without gaps to another. (That it may run by these settings stays a clause, also below: it is of a
+// stage, the settings and a work buffer, which meet here only.)
 #[tactic(auto, using(crate::proofs::Packed::packed_fits, crate::proofs::Packed::stage_packed))]
 fn run_packed<T: Element, F: KernelFamily<T>>(
     settings: &Settings<'_, F>,
@@ -147,7 +149,8 @@ fn run_packed<T: Element, F: KernelFamily<T>>(
     run_stage(settings, stage, &rows, work, dst, dst_stride);
 }
 
-// One stage between the halves: it reads the part that was written last, and writes the other half.
+// One stage between the halves: it reads the part that was written last, and writes the other half. The flag is the one by
+// which `written` finds that part, while both halves are lent.
 fn turn<T: Element, F: KernelFamily<T>>(
     settings: &Settings<'_, F>,
     stage: Stage,

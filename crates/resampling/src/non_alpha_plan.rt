@@ -54,7 +54,7 @@ impl<T: Element, F: KernelFamily<T>> Run<'_, T, F> {
             .filter_rows(self.options, &tall, dst, dst_stride);
     }
 
-    // Both axes. The route settles how the rows are run and how much work buffer that takes, and no pixel.
+    // Both axes. The route, an enum of the plan, settles how the rows are run and how much work buffer that takes, and no pixel.
     pub(crate) fn both_axes_convolve(
         &self,
         route: Route,
