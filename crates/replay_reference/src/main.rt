@@ -143,27 +143,31 @@ fn list_of(heap: Global, numbers: &[usize]) -> Result<Option<List<'_>>, AllocErr
     )
 }
 
-// Makes a call; all its buffers but the source's are 0 before it.
+// Makes a call, and gives its answer; all its buffers but the source's are 0 before it.
 fn make<T: Numbered, F: KernelFamily<T> + Default>(
     heap: Global,
     call: &Call<'_>,
     into: &mut [T],
     sheet: &Numbers,
-) -> Result<(), PicScaleError> {
+) -> Result<Result<(), PicScaleError>, AllocError> {
     let zero = T::from_number(0);
-    call_by(
+    let from = elements_of::<T>(heap, call.elements)?;
+    let mut work = vec![in heap; zero; call.work]?;
+    let mut first = vec![in heap; zero; call.first]?;
+    let mut second = vec![in heap; zero; call.second]?;
+    Ok(call_by(
         heap,
         F::default(),
         &call.request,
-        &elements_of::<T>(heap, call.elements)?,
+        &from,
         &call.source,
         into,
         sheet,
         call.window,
-        &mut vec![in heap; zero; call.work]?,
-        &mut vec![in heap; zero; call.first]?,
-        &mut vec![in heap; zero; call.second]?,
-    )
+        &mut work,
+        &mut first,
+        &mut second,
+    ))
 }
 
 // Makes the sheet and each call of a list, and prints its line.
@@ -174,7 +178,7 @@ fn run<T: Numbered, F: KernelFamily<T> + Default>(
     let heap = rt.alloc();
     let mut buffer = vec![in heap; T::from_number(list.mark); list.length]?;
     for call in &list.calls {
-        match make::<T, F>(heap, call, &mut buffer, &list.sheet) {
+        match make::<T, F>(heap, call, &mut buffer, &list.sheet)? {
             Ok(()) => print!(rt; "granted; ")?,
             Err(fault) => print!(rt; "refused {fault}; ")?,
         }
