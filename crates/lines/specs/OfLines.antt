@@ -1,9 +1,9 @@
 -- Lines in a buffer, and how many outputs there are.
-use Rattle.std.specs.Prelude.{◌≡◌, ℕ, zero, suc, ◌+◌, ◌-◌, ◌*◌, ◌/◌, ◌<◌, ◌≤◌, Bool, List, length}
-use Rattle.std.proofs.Common.{sym, ◌∙◌, suc-mul, add_comm, mul-le-mul_right, mul-div_cancel, arith, rules}
+use Rattle.std.specs.Prelude.{◌≡◌, ℕ, zero, suc, ◌+◌, ◌-◌, ◌*◌, ◌/◌, ◌<◌, ◌≤◌, Bool, List, [], length, take, drop}
+use Rattle.std.proofs.Common.{sym, ◌∙◌, suc-mul, mul_comm, add_comm, add-mul, mul-le-mul_right, mul-div_cancel, arith, rules}
 use Rattle.std.proofs.Math.Path.{ap}
 use Rattle.std.proofs.Math.Nat.{mul-one}
-use Rattle.std.proofs.lemmas.List.{places}
+use Rattle.std.proofs.lemmas.List.{places, get_or-take, get_or-drop}
 use Rattle.image.specs.Rows.{part, rows, row, joined, painted}
 use Rattle.image.specs.Images.{image_of}
 use Rattle.image.specs.declared.source_rows.SourceRows.{SourceRows}
@@ -12,7 +12,7 @@ pub use Rattle.image.proofs.Strides.{pixels_within as packed}
 use Rattle.image.proofs.RowsOf.{length-rows, row-rows, rows_even, painted_same}
 use Rattle.image.proofs.Laid.{part-part}
 use Rattle.sampler.specs.declared.sampler.ResamplingFunction.{ResamplingFunction}
-use Rattle.convolution.specs.Meaning.{Shaped, source_row, row_value}
+use Rattle.convolution.specs.Meaning.{Meaning, Shaped, source_row, row_value}
 use Rattle.convolution.specs.declared.convolution.ConvolutionOptions.{ConvolutionOptions}
 use Rattle.lines.specs.Lines.{line, column_line, line_meaning}
 use Rattle.lines.specs.Along.{pixel}
@@ -25,7 +25,21 @@ pixel_count c n len some long = ap (λ (k : ℕ). k / c) long ∙ mul-div_cancel
 pub pixel_fits : (x m c : ℕ) → x < m → x * c + c ≤ m * c
 pixel_fits x m c below = omega (arith, suc-mul x c, mul-le-mul_right c below)
 
+-- the last of four rows from row y on lies within the buffer
+pub last_of_four : (y h s n len : ℕ) → y + 4 ≤ h → s * (h - 1) + n ≤ len → y * s + (s * 3 + n) ≤ len
+last_of_four y h s n len below fits = omega (arith, row_fits (y + 3) h s n len (omega arith) fits, add-mul y 3 s, mul_comm 3 s)
+
 module _ {X : Type 0} where
+  -- a part as a range has it
+  pub part_range : (xs : List X) (a n : ℕ) → take (a + n - a) (drop a xs) ≡ part a n xs
+  part_range xs a n = ap (λ (k : ℕ). take k (drop a xs)) (omega arith)
+
+  pub length_range : (xs : List X) (a n : ℕ) → a + n ≤ length xs → length (take (a + n - a) (drop a xs)) ≡ n
+  length_range xs a n fits = ap length (part_range xs a n) ∙ search (rules, places)
+
+  pub length-row : (xs : List X) (i h s n : ℕ) → i < h → s * (h - 1) + n ≤ length xs → length (part (i * s) n xs) ≡ n
+  length-row xs i h s n below fits = let within = row_fits i h s n (length xs) below fits in search (rules, places)
+
   -- the length of a row that was lent
   pub row_even : (r : SourceRows X) (y : ℕ) → y < r.height → length (row (image_of r) y) ≡ r.row_length
   row_even r y below = rows_even r.elements.now r.row_length r.stride r.height r.fit.within y (omega (arith, length-rows r.elements.now r.row_length r.stride r.height))
@@ -99,3 +113,9 @@ module _ {X : Type 0} where
       column_length = λ f c n im h y d some even. length-columns n im h y some even;
       across_length = λ f c n xs w d some long. length_across c n xs w some long;
     }
+
+module _ {X : Type 0} (m : Meaning X) (o : ConvolutionOptions) where
+  -- row i of the rows from row y on, k of them
+  pub row_value_part : (im : List (List X)) (y k i : ℕ) → i < k → row_value m o (take k (drop y im)) i ≡ row_value m o im (y + i)
+  row_value_part im y k i l =
+      ap (λ (xs : List X). m.across o.function o.channels xs o.dst_size.width o.bit_depth) (get_or-take k (drop y im) i [] l ∙ get_or-drop y im i [])

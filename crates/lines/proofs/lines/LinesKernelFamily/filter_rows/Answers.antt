@@ -1,4 +1,4 @@
-use Rattle.std.proofs.Common.{◌≡◌, ℕ, ◌+◌, ◌-◌, ◌*◌, ◌/◌, ◌<◌, ◌≤◌, List, [], take, drop, length, refl, ap, ◌∙◌, get_or-take, get_or-drop, add-mul, mul_comm, arith, length-drop, length-take, rules}
+use Rattle.std.proofs.Common.{◌≡◌, ℕ, ◌+◌, ◌-◌, ◌*◌, ◌/◌, ◌<◌, ◌≤◌, List, [], take, drop, length, refl, ap, ◌∙◌, get_or-take, get_or-drop, add-mul, arith, length-drop, length-take, rules}
 use borrow.Rule.Slice.PartMut.{put_mid}
 use Rattle.image.specs.Rows.{RowsFit, part, row, painted}
 use Rattle.image.specs.Images.{image_of}
@@ -9,7 +9,7 @@ use Rattle.image.proofs.Strides.{row_fits}
 use Rattle.convolution.specs.Meaning.{Meaning, Shaped, source_row, target_row, row_value}
 use Rattle.convolution.specs.declared.convolution.ConvolutionOptions.{ConvolutionOptions}
 use Rattle.lines.specs.Lines.{line_meaning}
-use Rattle.lines.specs.OfLines.{row_even, line_shaped}
+use Rattle.lines.specs.OfLines.{last_of_four, row_even, row_value_part, line_shaped}
 use Rattle.lines.proofs.lines.LinesKernelFamily.filter_rows.Goals as goal
 use Rattle.lines.proofs.lines.LinesKernelFamily.filter_rows.Goals.{else-loop-y-test, then-loop-y-test+else-whole-y-gt4}
 
@@ -23,7 +23,7 @@ module _ {X : Type 0} (m : Meaning X) (shaped : Shaped m) (o : ConvolutionOption
       let last = row_fits y r.height s (target_row o) (length dst0) (omega arith) fits.within in
       painted_batch dst0 dst ys s y (y * s) (length dst - y * s) 4 _ _ was refl is (omega arith)
       (λ i l. omega (arith, add-mul y i s, row_fits (y + i) r.height s (target_row o) (length dst0) (omega arith) fits.within, shaped.across_length o.function o.channels o.src_size.width _ o.dst_size.width o.bit_depth some (even i l)))
-      (λ i l. ap (λ (xs : List X). m.across o.function o.channels xs o.dst_size.width o.bit_depth) (here i l))
+      (λ i l. row_value_part m o im y 4 i l)
 
 pub loop-y-init : goal.loop-y-init
 loop-y-init g c = (omega arith, (refl, painted_none _ _ _))
@@ -37,8 +37,8 @@ pub run_on_4_rows-requires-clause-target : goal.run_on_4_rows-requires-clause-ta
 run_on_4_rows-requires-clause-target g c =
     let s = c.args.dst_stride in
     let y = c.loop-y.y in
-    let w = row_fits (y + 3) c.args.src.now.height s (target_row c.args.options) (length c.loop-y.dst) (omega arith) (omega arith) in
-    record { apart = c.requires.target.apart; within = simp (length-take, length-drop) (omega (arith, w, add-mul y 3 s, mul_comm 3 s)) }
+    let w = last_of_four y c.args.src.now.height s (target_row c.args.options) (length c.loop-y.dst) (omega arith) (omega arith) in
+    record { apart = c.requires.target.apart; within = simp (length-take, length-drop) (omega (arith, w)) }
 
 pub loop-y-preserved : goal.loop-y-preserved
 loop-y-preserved g c = (
