@@ -104,12 +104,8 @@ pub(crate) fn nearest_rows<T: Element>(
     let m = target.width * channels;
     for y in 0..target.height {
         let to = y * dst_stride;
-        nearest_row(
-            &across,
-            channels,
-            src.row(down.position(y)),
-            &mut dst[to..to + m],
-        );
+        let into = &mut dst[to..to + m];
+        nearest_row(&across, channels, src.row(down.position(y)), into);
     }
 }
 

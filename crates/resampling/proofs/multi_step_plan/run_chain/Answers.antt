@@ -9,26 +9,6 @@ use Rattle.resampling.proofs.Packed.{exact_area, packed_fits, stage_packed}
 use Rattle.resampling.proofs.Chained.{linked_end, composed_append, rows_take, either_long}
 use Rattle.resampling.proofs.multi_step_plan.run_chain.Goals as goal
 
-pub written-requires : goal.written-requires
-written-requires g c =
-    let k = c.args.settings.now.channels in
-    let t = c.args.tail.source in
-    let e = exact_area k t c.elements-len.result c.requires.ready.2.sized.source c.requires.ready.0.few_channels c.elements-len.ensures in
-    let ends = ap (area k) (linked_end c.args.head.target t c.args.inner.now c.requires.linked) in
-    let room = c.middle-flipped.ensures.room in
-    either_long c.middle-flipped.result c.middle-flipped.new.first c.middle-flipped.new.second c.elements-len.result (omega (arith, room.0)) (omega (arith, room.1))
-
-pub packed_rows-half-requires-clause-held : goal.packed_rows-half-requires-clause-held
-packed_rows-half-requires-clause-held g c =
-    let k = c.args.settings.now.channels in
-    let t = c.args.tail.source in
-    let e = exact_area k t c.elements-len.result c.requires.ready.2.sized.source c.requires.ready.0.few_channels c.elements-len.ensures in
-    let ends = ap (area k) (linked_end c.args.head.target t c.args.inner.now c.requires.linked) in
-    let room = c.middle-flipped.ensures.room in
-    let long = either_long c.middle-flipped.result c.middle-flipped.new.first c.middle-flipped.new.second c.elements-len.result (omega (arith, room.0)) (omega (arith, room.1)) in
-    let all = ap length c.written.ensures ∙ length-take-le _ _ long in
-    omega (arith, all)
-
 pub returns : goal.returns
 returns g c =
     let k = c.args.settings.now.channels in
@@ -53,3 +33,23 @@ returns g c =
     c.run_stage-2.ensures
     ∙ ap (λ im. painted c.args.dst.now c.args.dst_stride (row im) c.args.tail.target.height)
     (ap (stage_value m k d c.args.tail) last ∙ sym (composed_append m k d sts (c.args.tail ∷ []) (stage_value m k d h src)))
+
+pub written-requires : goal.written-requires
+written-requires g c =
+    let k = c.args.settings.now.channels in
+    let t = c.args.tail.source in
+    let e = exact_area k t c.elements-len.result c.requires.ready.2.sized.source c.requires.ready.0.few_channels c.elements-len.ensures in
+    let ends = ap (area k) (linked_end c.args.head.target t c.args.inner.now c.requires.linked) in
+    let room = c.middle-flipped.ensures.room in
+    either_long c.middle-flipped.result c.middle-flipped.new.first c.middle-flipped.new.second c.elements-len.result (omega (arith, room.0)) (omega (arith, room.1))
+
+pub packed_rows-half-requires-clause-held : goal.packed_rows-half-requires-clause-held
+packed_rows-half-requires-clause-held g c =
+    let k = c.args.settings.now.channels in
+    let t = c.args.tail.source in
+    let e = exact_area k t c.elements-len.result c.requires.ready.2.sized.source c.requires.ready.0.few_channels c.elements-len.ensures in
+    let ends = ap (area k) (linked_end c.args.head.target t c.args.inner.now c.requires.linked) in
+    let room = c.middle-flipped.ensures.room in
+    let long = either_long c.middle-flipped.result c.middle-flipped.new.first c.middle-flipped.new.second c.elements-len.result (omega (arith, room.0)) (omega (arith, room.1)) in
+    let all = ap length c.written.ensures ∙ length-take-le _ _ long in
+    omega (arith, all)

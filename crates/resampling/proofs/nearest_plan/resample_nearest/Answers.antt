@@ -8,24 +8,6 @@ use Rattle.resampling.proofs.Sampled.{between, sampled_on}
 use Rattle.resampling.proofs.nearest_plan.resample_nearest.Given.{Over}
 use Rattle.resampling.proofs.nearest_plan.resample_nearest.Goals as goal
 
-pub nearest_rows-requires-clause-channels : goal.nearest_rows-requires-clause-channels
-nearest_rows-requires-clause-channels g c = let b = source_sound _ _ _ c.in_ok-rows.ensures.reply in (b.some_channels, b.few_channels)
-
-pub nearest_rows-requires-clause-sizes : goal.nearest_rows-requires-clause-sizes
-nearest_rows-requires-clause-sizes g c =
-    let a = target_sound _ _ _ c.in_ok-validate.ensures in
-    let b = source_sound _ _ _ c.in_ok-rows.ensures.reply in
-    let m = between c.args.into.now.numbers c.args.source.now.numbers c.in_ok-check_between.ensures in
-    rw (c.size.ensures, c.size-2.ensures) (((b.some_width, m.source_width), (b.some_height, m.source_height)), ((a.some_width, m.target_width), (a.some_height, m.target_height)))
-
-pub nearest_rows-requires-clause-written : goal.nearest_rows-requires-clause-written
-nearest_rows-requires-clause-written g c =
-    let d = c.args.into.now.numbers in
-    let a = target_sound _ _ _ c.in_ok-validate.ensures in
-    let m = between d c.args.source.now.numbers c.in_ok-check_between.ensures in
-    let e = exact_pitch d _ _ a c.pitch.ensures in
-    rw (e, c.size-2.ensures, sym m.channels) (record { apart = a.wide; within = a.fits })
-
 after : (g : Over) (c : goal.After-nearest_rows g) → c.nearest_rows.new.dst ≡ laid c.args.into.now.numbers (nearest_pixels c.args.into.now.numbers c.args.source.now.numbers (elements c.args.source.now)) (elements_mut c.args.into.now)
 after g c =
     let d = c.args.into.now.numbers in
@@ -43,3 +25,21 @@ returns-clause-shown g c =
     let d = c.args.into.now.numbers in
     let s = c.args.source.now.numbers in
     sampled_on d s _ _ _ (target_sound _ _ _ c.in_ok-validate.ensures) (source_sound _ _ _ c.in_ok-rows.ensures.reply) (between d s c.in_ok-check_between.ensures) (after g c)
+
+pub nearest_rows-requires-clause-channels : goal.nearest_rows-requires-clause-channels
+nearest_rows-requires-clause-channels g c = let b = source_sound _ _ _ c.in_ok-rows.ensures.reply in (b.some_channels, b.few_channels)
+
+pub nearest_rows-requires-clause-sizes : goal.nearest_rows-requires-clause-sizes
+nearest_rows-requires-clause-sizes g c =
+    let a = target_sound _ _ _ c.in_ok-validate.ensures in
+    let b = source_sound _ _ _ c.in_ok-rows.ensures.reply in
+    let m = between c.args.into.now.numbers c.args.source.now.numbers c.in_ok-check_between.ensures in
+    rw (c.size.ensures, c.size-2.ensures) (((b.some_width, m.source_width), (b.some_height, m.source_height)), ((a.some_width, m.target_width), (a.some_height, m.target_height)))
+
+pub nearest_rows-requires-clause-written : goal.nearest_rows-requires-clause-written
+nearest_rows-requires-clause-written g c =
+    let d = c.args.into.now.numbers in
+    let a = target_sound _ _ _ c.in_ok-validate.ensures in
+    let m = between d c.args.source.now.numbers c.in_ok-check_between.ensures in
+    let e = exact_pitch d _ _ a c.pitch.ensures in
+    rw (e, c.size-2.ensures, sym m.channels) (record { apart = a.wide; within = a.fits })

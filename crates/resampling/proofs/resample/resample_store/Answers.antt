@@ -1,4 +1,4 @@
-use Rattle.std.proofs.Common.{◌≡◌, true, false, cond, is_ok, eqb, ◌&&◌, sym, ap, ◌∙◌}
+use Rattle.std.proofs.Common.{◌≡◌, true, false, cond, is_ok, eqb, ◌&&◌, sym, ap, ◌∙◌, rules}
 use Rattle.std.proofs.lemmas.Result.{err_from_is_err_and}
 use Rattle.image.specs.Rows.{row, painted}
 use Rattle.image.specs.Stores.{elements_mut, laid}
@@ -6,12 +6,18 @@ use Rattle.image.proofs.Granted.{source_sound, target_sound, joined_granted, exa
 use Rattle.image.proofs.Copied.{laid_by}
 use Rattle.planner.specs.Plan.{plan_stages}
 use Rattle.values.specs.Values.{composed}
+use Rattle.history.specs.Calls.{match_answer}
 use Rattle.history.specs.Calls.Window.{whole}
 use Rattle.history.proofs.Allowed.{matched}
 use Rattle.history.proofs.Steps.{value_copied}
 use Rattle.resampling.specs.Seen.{request_of, call_of}
 use Rattle.resampling.proofs.Resampled.{joined_three, sizes_by, buffers_equal, buffers_asked, same_granted, plan_fits, plan_rows}
 use Rattle.resampling.proofs.resample.resample_store.Goals as goal
+
+-- a refusal after a write is told here
+pub returns-in_err-check_match : goal.returns-in_err-check_match
+unfolding match_answer
+returns-in_err-check_match g c = search rules
 
 pub returns-then-eq-clause-reply : goal.returns-then-eq-clause-reply
 returns-then-eq-clause-reply g c =
