@@ -16,9 +16,11 @@ impl Level for u16 {
 
     ghost exact = { Prim.search rules };
 
-    ghost narrows = { Prim.search rules };
-
     fn wide(self) -> u64 {
         u64::from(self)
+    }
+
+    fn narrow(v: u64) -> u16 {
+        (v % 65536) as u16
     }
 }

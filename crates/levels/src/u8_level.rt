@@ -16,9 +16,11 @@ impl Level for u8 {
 
     ghost exact = { Prim.search rules };
 
-    ghost narrows = { Prim.search rules };
-
     fn wide(self) -> u64 {
         u64::from(self)
+    }
+
+    fn narrow(v: u64) -> u8 {
+        (v % 256) as u8
     }
 }

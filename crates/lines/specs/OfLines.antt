@@ -91,15 +91,14 @@ module _ {X : Type 0} where
     across_outputs xs c n w some long = ap (λ (p : ℕ). joined (pixel value xs c p w) w) (sym (pixel_count c n (length xs) some long))
 
     -- the outputs of four rows of pixels of c elements are their row values
-    pub across_four : (knows : ResamplingFunction → Bool) (o : ConvolutionOptions) (r : SourceRows X) (dst : List X) (t c : ℕ) → o.channels ≡ c → 0 < o.channels → r.row_length ≡ source_row o → r.height ≡ 4
-        → painted dst t (λ i. joined (pixel value (row (image_of r) i) c o.src_size.width o.dst_size.width) o.dst_size.width) 4
-        ≡ painted dst t (row_value (line_meaning knows value) o (image_of r)) 4
-    across_four knows o r dst t c is some wide four =
+    pub across_four : (knows : ResamplingFunction → Bool) (o : ConvolutionOptions) (im : List (List X)) (dst : List X) (t c : ℕ) → o.channels ≡ c → 0 < o.channels → ((i : ℕ) → i < 4 → length (row im i) ≡ source_row o)
+        → painted dst t (λ i. joined (pixel value (row im i) c o.src_size.width o.dst_size.width) o.dst_size.width) 4
+        ≡ painted dst t (row_value (line_meaning knows value) o im) 4
+    across_four knows o im dst t c is some even =
         let n = o.src_size.width in
         let m = o.dst_size.width in
-        let even : (i : ℕ) → i < 4 → length (row (image_of r) i) ≡ source_row o = λ i l. row_even r i (omega arith) ∙ wide in
-        ap (λ (c : ℕ). painted dst t (λ i. joined (pixel value (row (image_of r) i) c n m) m) 4) (sym is)
-        ∙ painted_same dst t _ _ 4 (λ i l. across_outputs (row (image_of r) i) o.channels n m some (even i l))
+        ap (λ (c : ℕ). painted dst t (λ i. joined (pixel value (row im i) c n m) m) 4) (sym is)
+        ∙ painted_same dst t _ _ 4 (λ i l. across_outputs (row im i) o.channels n m some (even i l))
 
     -- the outputs of the channels of a row's pixels
     pub length-pixel : (xs : List X) (c n m x : ℕ) → 0 < n → length xs ≡ n * c → length (pixel value xs c n m x) ≡ c

@@ -1,5 +1,5 @@
--- The largest of a list of stages. Assumes nothing.
-use Rattle.std.proofs.Common.{◌≡◌, ℕ, ◌-◌, ◌^◌, ◌≤◌, max, min, List, [], ◌∷◌, ◌++◌, map, Option, sym, refl, ap, ◌∙◌, zero, suc, rules, arith}
+-- The largest of a list of stages, and that no stage passes it. Assumes nothing.
+use Rattle.std.proofs.Common.{◌≡◌, ℕ, ◌-◌, ◌^◌, ◌<◌, ◌≤◌, max, min, List, [], ◌∷◌, ◌++◌, map, length, get_or, Option, sym, refl, ap, ◌∙◌, zero, suc, rules, arith}
 use Rattle.std.specs.List.{fold, reduce}
 use Rattle.std.specs.Option.{unwrap_or, option_map}
 use Rattle.std.proofs.lemmas.Iterator.Adapters.{option_map_id}
@@ -37,3 +37,16 @@ half_top c [] st h each = refl
 half_top c (x ∷ []) st h each = omega (arith, counted_is c x h (each zero x (omega arith)).target)
 half_top c (x ∷ y ∷ sts) st h each =
     omega (arith, counted_is c x h (each zero x (omega arith)).target, top_more (counted c x) (map (counted c) (y ∷ sts)), half_top c (y ∷ sts) st h (λ k d lt. each (suc k) d (omega arith)))
+
+-- no stage needs more than the work size
+pub work_most : (r : Route) (c : ℕ) (xs : List Stage) (k : ℕ) (d : Stage) → k < length xs → work_by (get_or xs k d).kind r c (get_or xs k d) ≤ work_of r c xs
+work_most r c [] k d h = absurd (omega arith)
+work_most r c (x ∷ xs) zero d h = omega arith
+work_most r c (x ∷ xs) (suc k) d h = omega (arith, work_most r c xs k d (omega arith))
+
+-- no stage but the last writes more than a half has
+pub half_most : (c : ℕ) (xs : List Stage) (k : ℕ) (d : Stage) → suc k < length xs → area c (get_or xs k d).target ≤ half_of c xs
+half_most c [] k d h = absurd (omega arith)
+half_most c (x ∷ []) k d h = absurd (omega arith)
+half_most c (x ∷ y ∷ xs) zero d h = omega arith
+half_most c (x ∷ y ∷ xs) (suc k) d h = omega (arith, half_most c (y ∷ xs) k d (omega arith))

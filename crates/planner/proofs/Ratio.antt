@@ -80,3 +80,7 @@ three f =
       | inl e ↦ rw e (omega arith)
       | inr e ↦ rw e (omega (arith, ltb-false (size_of f) 2 e))
     ]
+
+-- and at most 4
+pub eight : (f : ResamplingFunction) → twice_ratio f ≤ 8
+eight f = elim (cases_Bool (ltb (size_of f) 2)) [ inl e ↦ rw e (omega arith) | inr e ↦ rw e (omega arith) ]

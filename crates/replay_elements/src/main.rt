@@ -124,10 +124,11 @@ fn replay_as<T: Numbered, F: KernelFamily<T> + Default>(
     rt: &HostRuntime,
     kind: &str,
     case: &Case,
-    numbers: &[usize],
+    words: SplitWhitespace<'_>,
 ) -> io::Result<()> {
     let heap = rt.alloc();
-    let from = elements_of::<T>(heap, numbers)?;
+    let numbers: Vec<usize> = words.map(number).collect(heap)?;
+    let from = elements_of::<T>(heap, &numbers)?;
     let mut into = vec![in heap; T::from_number(case.mark); case.length]?;
     match resample::<T, F>(heap, case, &from, &mut into) {
         Ok((work, half)) => println!(rt; "{kind} {work} {half}: {}", Row(&into)),
@@ -141,11 +142,10 @@ fn replay(rt: &HostRuntime, line: &str) -> io::Result<()> {
     };
     let mut words = rest.split_whitespace();
     let case = case_of(&mut words);
-    let numbers: Vec<usize> = words.map(number).collect(rt.alloc())?;
     match (kind, case.limit) {
-        ("u16", true) => replay_as::<u16, Limit<Pair<Tent, Span>>>(rt, kind, &case, &numbers),
-        ("u16", false) => replay_as::<u16, Pair<Tent, Span>>(rt, kind, &case, &numbers),
-        ("f32", _) => replay_as::<f32, FloatTent>(rt, kind, &case, &numbers),
+        ("u16", true) => replay_as::<u16, Limit<Pair<Tent, Span>>>(rt, kind, &case, words),
+        ("u16", false) => replay_as::<u16, Pair<Tent, Span>>(rt, kind, &case, words),
+        ("f32", _) => replay_as::<f32, FloatTent>(rt, kind, &case, words),
         _ => println!(rt; "no case"),
     }
 }
