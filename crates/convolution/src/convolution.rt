@@ -21,8 +21,8 @@ pub struct ConvolutionOptions {
 // Only the engine makes runs: for functions that planning found known, fitting lengths and, where one is needed, a
 // checked depth. A family has values for every function, and planning refuses those that it does not know.
 // A run writes its values and no other element, whatever gaps and output held.
-// What options must be stands in each run as one fact, `Ready`: as a ghost field it would need the element type in the
-// options, which could then not be copied. Rows are written by their number: of what `chunks_mut` lends a proof keeps no
+// What options must be stands in each run as one fact, `Ready`: as a ghost field it would need the element type as a
+// parameter of the options, and a generic struct with a ghost field can't be `Copy`. Rows are written by their number: of what `chunks_mut` lends a proof keeps no
 // element.
 pub trait KernelFamily<T: Element>: Drop {
     ghost meaning: { Self → Meaning T };

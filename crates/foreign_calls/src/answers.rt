@@ -33,6 +33,7 @@ impl From<[usize; 6]> for Values {
     }
 }
 
+// (Printing a refusal goes by its cases too: a list for both would be an array of six with a count beside it.)
 impl From<PicScaleError> for Values {
     ghost from_gives = { λ fault r. r ≡ six (values_of fault) };
 

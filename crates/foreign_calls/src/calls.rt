@@ -16,7 +16,7 @@ use planner::{ResamplingPlan, Scaler, Stage, plan_generic_resize};
 use resampling::{resample_window, resample_with_scratch};
 use std::alloc::Global;
 
-// What a plan needs, and one of its stages.
+// How many stages a plan has, and the elements that it needs.
 #[repr(C)]
 #[derive(Clone, Copy)]
 pub struct Plan {

@@ -48,7 +48,8 @@ impl Numbers {
         }
     }
 
-    // The numbers of a part, which shares the pitch, the channels and the depth.
+    // The numbers of a part, which shares the pitch, the channels and the depth. (Where it begins is worked out by crop and by
+    // the window call: that fits a machine number where the store was checked, and no public function asks for that.)
     pub fn part(&self, part: Part) -> Numbers
         ensures { result ≡ record { channels = self.now.channels; width = part.width; height = part.height; stride = min (pitch self.now) (2 ^ 64 - 1); bit_depth = self.now.bit_depth } }
     {

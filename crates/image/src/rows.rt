@@ -42,7 +42,8 @@ impl<'a, T> SourceRows<'a, T> {
     }
 }
 
-// Copies rows, and no gap. By row number: of what `chunks_mut` lends a proof keeps no element.
+// Copies rows, and no gap. By row number: of what `chunks_mut` lends a proof keeps no element. (The engine has its own: this
+// one asks that rows fit, and so it is not public.)
 pub(crate) fn copy_rows<T: Element>(src: &SourceRows<'_, T>, dst: &mut [T], dst_stride: usize)
     requires { RowsFit src.now.row_length dst_stride src.now.height (length dst.old) }
     ensures { dst.new ≡ painted dst.old dst_stride (row (image_of src.now)) src.now.height }

@@ -1,4 +1,5 @@
-// Sizes in bytes, decided exactly: products and sums stop at the largest number, which is past the limit.
+// Sizes in bytes, decided exactly: products and sums stop at the largest number, which is past the limit. The functions and
+// their parameters are the Rust's.
 ghost use Rattle.std.specs.Prelude.{◌≡◌, ℕ, ◌+◌, ◌-◌, ◌*◌, ◌<◌, ◌||◌, nat_lt};
 ghost use Rattle.image.specs.Stores.{byte_limit};
 

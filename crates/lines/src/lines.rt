@@ -107,6 +107,7 @@ fn four_rows_of_pixels<T: Element, K: LineKernel<T>, const N: usize>(
     ensures { dst.new ≡ painted dst.old dst_stride (λ i. joined (pixel K.LineKernel.value (row (image_of src.now) i) N axis.now.source axis.now.target) axis.now.target) 4 }
 {
     let rows = [src.row(0), src.row(1), src.row(2), src.row(3)];
+    // By number: an output's four pixels lie a stride apart.
     for x in 0..axis.target {
         let shared = kernel.place(axis, x);
         pixels_of_4_rows::<T, K, N>(

@@ -70,11 +70,7 @@ impl Numbered for f32 {
 pub fn elements_of<T: Numbered>(heap: Global, numbers: &[usize]) -> Result<Vec<T>, AllocError>
     ensures { IfOk result (λ elements. elements.items ≡ map T.of_number numbers.now) }
 {
-    let mut elements = Vec::with_capacity(heap, numbers.len())?;
-    for n in numbers {
-        elements.push(T::from_number(*n))?;
-    }
-    Ok(elements)
+    numbers.iter().map(|n| T::from_number(*n)).collect(heap)
 }
 
 // A row of elements, parted by single spaces.

@@ -29,7 +29,8 @@ fn packed(channels: usize, size: ImageSize) -> Numbers
     }
 }
 
-// Runs a plan from pixels without gaps to others: the stores are made here, over the whole of the slices.
+// Runs a plan from pixels without gaps to others: the stores are made here, over the whole of the slices. (The buffers stay
+// parameters, as the call that they go to has them.)
 fn run_order<F: KernelFamily<u8>>(
     plan: &ResamplingPlan<u8, F>,
     source: &[u8],

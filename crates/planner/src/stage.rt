@@ -87,7 +87,8 @@ impl Stage {
         self.kind.letter()
     }
 
-    // The elements of the work buffer that the stage needs.
+    // The elements of the work buffer that the stage needs: none but on both axes, as the route has it. (The channels are
+    // the plan's and the sizes the stage's, so that no type has the facts of both.)
     pub(crate) fn scratch_size(&self, route: Route, channels: usize) -> usize
         requires source { Dimensions self.now.source }
         requires target { Dimensions self.now.target }

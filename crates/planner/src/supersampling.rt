@@ -6,7 +6,7 @@ ghost use Rattle.planner.specs.Chains.{Dimensions};
 use image::ImageSize;
 use sampler::ResamplingFunction;
 
-// The function that goes first, if one does. Both sizes are taken and no `Task`: a stage further on has none.
+// The function that goes first, if one does. Both sizes are taken and no `Task`: a stage further on has none. So do all functions of one stage.
 pub(crate) fn supersampling_prefilter(
     source: ImageSize,
     target: ImageSize,

@@ -16,6 +16,7 @@ use resampling::resample_with_scratch;
 use sampler::ResamplingFunction;
 use span::Span;
 use std::alloc::Global;
+use std::array;
 use std::io;
 use std::str::SplitWhitespace;
 use tent::{FloatTent, Tent};
@@ -45,14 +46,10 @@ fn number(word: &str) -> usize {
 
 // The numbers of the next words.
 fn numbers<const N: usize>(words: &mut SplitWhitespace<'_>) -> [usize; N] {
-    let mut found = [0; N];
-    for place in &mut found {
-        *place = words.next().map_or(0, number);
-    }
-    found
+    array::from_fn(|_| words.next().map_or(0, number))
 }
 
-// The flags are off at 0. The source's own depth is never looked at.
+// Reads on in the line, so that it is no `From`. The flags are off at 0. The source's own depth is never looked at.
 fn case_of(words: &mut SplitWhitespace<'_>) -> Case {
     let [limit, whole, steps, function, bit_depth, channels] = numbers::<6>(words);
     let [source_width, source_height, source_stride] = numbers::<3>(words);
@@ -142,6 +139,7 @@ fn replay(rt: &HostRuntime, line: &str) -> io::Result<()> {
     };
     let mut words = rest.split_whitespace();
     let case = case_of(&mut words);
+    // By the kind's element type and family.
     match (kind, case.limit) {
         ("u16", true) => replay_as::<u16, Limit<Pair<Tent, Span>>>(rt, kind, &case, words),
         ("u16", false) => replay_as::<u16, Pair<Tent, Span>>(rt, kind, &case, words),

@@ -10,7 +10,8 @@ use std::alloc::{AllocError, Global};
 use std::io;
 use tent::Tent;
 
-// The value of a hexadecimal digit. Any other byte counts as 0, so that every line is an order (`hex::decode` refuses some).
+// The value of a hexadecimal digit. Any other byte counts as 0, so that every line is an order (`hex::decode` refuses some,
+// and `to_digit` takes capital letters).
 fn digit(b: u8) -> u8 {
     match b {
         b'0'..=b'9' => b - b'0',
@@ -36,6 +37,7 @@ fn replay(rt: &HostRuntime, line: &str) -> io::Result<()> {
     }
 }
 
+// The loop of each program over lines: a function for it would take a closure, and be no shorter.
 fn main(rt: HostRuntime) -> io::Result<()> {
     for line in rt.lines(rt.alloc()) {
         let line = line?;

@@ -121,6 +121,7 @@ fn list_of(heap: Global, numbers: &[usize]) -> Result<Option<List<'_>>, AllocErr
         return Ok(None);
     };
     let mut calls = Vec::new(heap);
+    // Where a call ends is known when it is read: an iterator of calls would be a struct for this loop alone.
     while let Some((call, after)) = call_of(rest) {
         calls.push(call)?;
         rest = after;
@@ -213,6 +214,7 @@ fn replay(rt: &HostRuntime, line: &str) -> io::Result<()> {
     }
 }
 
+// The loop of each program over lines: a function for it would take a closure, and be no shorter.
 fn main(rt: HostRuntime) -> io::Result<()> {
     for line in rt.lines(rt.alloc()) {
         let line = line?;

@@ -100,7 +100,8 @@ pub(crate) fn run_stage<T: Element, F: KernelFamily<T>>(
     }
 }
 
-// The part of the half that was written last: of the second one where `flipped` is set.
+// The part of the half that was written last: of the second one where `flipped` is set. (The form of two slices and a flag
+// is a rule of the project: both halves stay lent while the flag says which is which.)
 fn written<'a, T>(first: &'a [T], second: &'a [T], flipped: bool, len: usize) -> &'a [T]
     requires { len ≤ length (if flipped then second.now else first.now) }
     ensures { result.now ≡ take len (if flipped then second.now else first.now) }
@@ -112,7 +113,8 @@ fn written<'a, T>(first: &'a [T], second: &'a [T], flipped: bool, len: usize) ->
     }
 }
 
-// The image without gaps that a half begins with.
+// The image without gaps that a half begins with. (The size and the channels come from a stage and the settings, apart, and
+// so do their facts.)
 fn packed_rows<'a, T>(half: &'a [T], size: ImageSize, channels: usize) -> SourceRows<'a, T>
     requires size { Dimensions size }
     requires channels { channels ≤ 4 }

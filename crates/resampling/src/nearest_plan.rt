@@ -14,33 +14,30 @@ use image::{Element, ImageSize, ImageStore, ImageStoreMut, Numbers, PicScaleErro
 use planner::check_dimensions;
 
 impl Scale {
-    fn new(axis: &Axis) -> Scale
-        ensures { (result.source ≡ axis.now.source) × (result.target ≡ axis.now.target) }
+    fn new(axis: Axis) -> Scale
+        ensures { result.axis ≡ axis }
     {
-        Scale {
-            source: axis.source,
-            target: axis.target,
-            step: ((axis.source as u64) << 32) / (axis.target as u64),
-        }
+        let step = ((axis.source as u64) << 32) / (axis.target as u64);
+        Scale { axis, step }
     }
 
     // The source pixel of the target pixel `x`.
     #[tactic(auto, using(values::proofs::Within::nearest_below), unfolding(values::specs::Nearest::nearest))]
     fn position(&self, x: usize) -> usize
-        requires { x < self.now.target }
-        ensures value { result ≡ nearest self.now.source self.now.target x }
-        ensures within { result < self.now.source }
+        requires { x < self.now.axis.target }
+        ensures value { result ≡ nearest self.now.axis.source self.now.axis.target x }
+        ensures within { result < self.now.axis.source }
     {
         ((x as u64 * self.step + self.step / 2) >> 32) as usize
     }
 }
 
-// One row of pixels of one element each.
+// One row of pixels of one element each: by the other loop, a range for each pixel, it took longer.
 #[tactic(auto, using(crate::proofs::Taken::taken_row))]
 fn nearest_row_of_elements<T: Element>(across: &Scale, src: &[T], dst: &mut [T])
-    requires source { length src.now ≡ across.now.source }
-    requires target { length dst.old ≡ across.now.target }
-    ensures { dst.new ≡ nearest_row 1 across.now.source across.now.target src.now }
+    requires source { length src.now ≡ across.now.axis.source }
+    requires target { length dst.old ≡ across.now.axis.target }
+    ensures { dst.new ≡ nearest_row 1 across.now.axis.source across.now.axis.target src.now }
 {
     for (x, out) in dst.iter_mut().enumerate() {
         *out = src[across.position(x)];
@@ -51,11 +48,11 @@ fn nearest_row_of_elements<T: Element>(across: &Scale, src: &[T], dst: &mut [T])
 #[tactic(auto, using(image::proofs::Paint::painted_none, image::proofs::Paint::painted_more))]
 fn nearest_row_of_pixels<T: Element, const N: usize>(across: &Scale, src: &[T], dst: &mut [T])
     requires channels { N ≤ 4 }
-    requires source { length src.now ≡ across.now.source * N }
-    requires target { length dst.old ≡ across.now.target * N }
-    ensures { dst.new ≡ nearest_row N across.now.source across.now.target src.now }
+    requires source { length src.now ≡ across.now.axis.source * N }
+    requires target { length dst.old ≡ across.now.axis.target * N }
+    ensures { dst.new ≡ nearest_row N across.now.axis.source across.now.axis.target src.now }
 {
-    for x in 0..across.target {
+    for x in 0..across.axis.target {
         let from = across.position(x) * N;
         let to = x * N;
         dst[to..to + N].copy_from_slice(&src[from..from + N]);
@@ -65,9 +62,9 @@ fn nearest_row_of_pixels<T: Element, const N: usize>(across: &Scale, src: &[T], 
 // One row, its pixels in turn. The channels are a constant of the loop, so that a pixel moves at once.
 fn nearest_row<T: Element>(across: &Scale, channels: usize, src: &[T], dst: &mut [T])
     requires channels { (0 < channels) × (channels ≤ 4) }
-    requires source { length src.now ≡ across.now.source * channels }
-    requires target { length dst.old ≡ across.now.target * channels }
-    ensures { dst.new ≡ nearest_row channels across.now.source across.now.target src.now }
+    requires source { length src.now ≡ across.now.axis.source * channels }
+    requires target { length dst.old ≡ across.now.axis.target * channels }
+    ensures { dst.new ≡ nearest_row channels across.now.axis.source across.now.axis.target src.now }
 {
     match channels {
         1 => nearest_row_of_elements(across, src, dst),
@@ -93,11 +90,11 @@ pub(crate) fn nearest_rows<T: Element>(
     requires written { RowsFit (target.width * channels) dst_stride target.height (length dst.old) }
     ensures { dst.new ≡ painted dst.old dst_stride (row (nearest_image channels source target (image_of src.now))) target.height }
 {
-    let across = Scale::new(&Axis {
+    let across = Scale::new(Axis {
         source: source.width,
         target: target.width,
     });
-    let down = Scale::new(&Axis {
+    let down = Scale::new(Axis {
         source: source.height,
         target: target.height,
     });

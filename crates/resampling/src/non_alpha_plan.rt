@@ -1,4 +1,5 @@
-// The stages that apply a kernel: vertical, horizontal, and both axes, the vertical first.
+// The stages that apply a kernel: vertical, horizontal, and both axes, the vertical first. That the rows of a destination
+// fit stays a clause of each: the destination is a slice that is lent to be written.
 ghost use Rattle.std.specs.Prelude.{◌≡◌, ◌≤◌, length};
 ghost use Rattle.image.specs.Images.{image_of};
 ghost use Rattle.image.specs.Rows.{RowsFit};

@@ -58,7 +58,7 @@ fn check_match<T, F>(
 fn needs_depth<T: Element>(function: ResamplingFunction) -> bool
     ensures { result ≡ (T.Element.NEEDS_DEPTH && not (is_nearest function)) }
 {
-    T::should_have_bit_depth() && function != ResamplingFunction::Nearest
+    T::should_have_bit_depth() && !function.is_nearest()
 }
 
 // Whether a buffer of `size` elements has the room that is expected.
@@ -91,6 +91,8 @@ fn check_buffers<T: Element, F>(
 }
 
 // A resample into any destination, the whole of it: the answer, and the plan's value in its rows where it is granted.
+// (The three buffers stay parameters, here and below: a struct of them would owe in every contract that they are those
+// that were lent.)
 #[tactic(auto, unfolding(history::specs::Calls::match_answer))]
 fn resample_store<T: Element, F: KernelFamily<T>>(
     plan: &ResamplingPlan<T, F>,

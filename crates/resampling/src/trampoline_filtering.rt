@@ -57,6 +57,7 @@ impl<T: Element, F: KernelFamily<T>> Run<'_, T, F> {
     }
 
     // All rows of the target, by row number: batches of four where the family offers them, and the remaining rows singly.
+    // (Whether it does is asked here once; that the rows fit is said of the slice that is lent to be written.)
     #[tactic(auto, using(image::proofs::Paint::painted_none, image::proofs::Paint::painted_more))]
     pub(crate) fn trampoline_filter(&self, work: &mut [T], dst: &mut [T], dst_stride: usize)
         requires work { run_work ByBatches self.now.options ≤ length work.old }

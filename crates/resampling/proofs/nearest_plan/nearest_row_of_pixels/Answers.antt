@@ -6,7 +6,7 @@ use Rattle.resampling.proofs.nearest_plan.nearest_row_of_pixels.Goals as goal
 
 pub returns : goal.returns
 returns g c =
-    let a = c.args.across.now in
+    let a = c.args.across.now.axis in
     let all : c.loop-x.x ≡ a.target = omega arith in
     c.loop-x.invariant
     ∙ (ap (painted c.args.dst.now g.row.N _) all
