@@ -110,6 +110,7 @@ impl Numbers {
 
 impl Part {
     // Whether it lies within an image, and is not empty.
+    #[tactic(auto, unfolding(crate::specs::Stores::part_answer))]
     pub fn check(&self, image: ImageSize) -> Result<(), PicScaleError>
         ensures { reply result ≡ part_answer self.now.x self.now.y self.now.width self.now.height image.width image.height }
     {
@@ -145,6 +146,7 @@ impl Part {
 }
 
 // The copy's own checks, after those of the two stores.
+#[tactic(auto, unfolding(crate::specs::Stores::same_answer))]
 pub(crate) fn check_same(dst: Numbers, src: Numbers) -> Result<(), PicScaleError>
     ensures { reply result ≡ same_answer dst src }
 {

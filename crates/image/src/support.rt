@@ -5,6 +5,7 @@ ghost use Rattle.image.specs.Stores.{byte_limit};
 const LIMIT: usize = 0x7fff_ffff_ffff_ffff;
 
 // Whether an image without gaps is too large.
+#[tactic(auto, using(crate::proofs::Sizes::sat_mul, crate::proofs::Sizes::sat_test))]
 pub(crate) fn check_image_size_overflow(
     width: usize,
     height: usize,
@@ -22,6 +23,7 @@ pub(crate) fn check_image_size_overflow(
 }
 
 // Whether an image whose rows begin `stride` apart is too large.
+#[tactic(auto, using(crate::proofs::Sizes::sat_mul, crate::proofs::Sizes::sat_add, crate::proofs::Sizes::sat_test))]
 pub(crate) fn check_image_size_overflow_with_stride(
     width: usize,
     height: usize,
