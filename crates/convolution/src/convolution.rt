@@ -1,5 +1,5 @@
 // A kernel family, by its meaning: the functions that it knows, a column value and a row value.
-ghost use Rattle.std.specs.Prelude.{◌≡◌, Bool, true, ℕ, ◌<◌, length};
+ghost use Rattle.std.specs.Prelude.{◌≡◌, Bool, ◌<◌, length};
 ghost use Rattle.image.specs.Rows.{RowsFit, painted};
 ghost use Rattle.image.specs.Images.{image_of};
 ghost use Rattle.convolution.specs.Meaning.{Meaning, Shaped, Ready, source_row, target_row, column_value, row_value};

@@ -1,5 +1,5 @@
 // What a caller is told: 0 where it is granted, else the refusal's number, and the values that it carries.
-ghost use Rattle.std.specs.Prelude.{◌≡◌, []};
+ghost use Rattle.std.specs.Prelude.{◌≡◌};
 ghost use Rattle.image.specs.Refusals.{reply, values_of};
 ghost use Rattle.foreign_calls.specs.Requests.{six};
 ghost use Rattle.foreign_calls.specs.Crossing.{Told};

@@ -20,6 +20,9 @@ module _ {X : Type 0} where
   pub row-rows : (xs : List X) (n s h y : ℕ) → y < h → row (rows xs n s h) y ≡ part (y * s) n xs
   row-rows xs n s h y l = row_listed (λ y. part (y * s) n xs) h y l
 
+  -- the same, under a name that an attribute can say
+  pub ruleset row_within = (row-rows)
+
   -- and none past the last
   pub no_rows_from : (xs : List X) (n s h y k : ℕ) → h ≤ y → rows xs n s 0 ≡ take k (drop y (rows xs n s h))
   unfolding listed

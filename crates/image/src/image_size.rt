@@ -1,5 +1,5 @@
 // The size of an image, in pixels.
-ghost use Rattle.std.specs.Prelude.{◌≡◌, ℕ, ◌*◌, ◌-◌, ◌^◌, min};
+ghost use Rattle.std.specs.Prelude.{◌≡◌, ◌*◌, ◌-◌, ◌^◌, min};
 
 #[derive(Clone, Copy, Debug, PartialEq, Eq)]
 pub struct ImageSize {

@@ -1,5 +1,5 @@
 // The numbers of a store, whatever its buffer, and a part of an image.
-ghost use Rattle.std.specs.Prelude.{◌≡◌, ℕ, ◌-◌, ◌^◌, ◌<◌, [], min};
+ghost use Rattle.std.specs.Prelude.{◌≡◌, ◌-◌, ◌^◌, ◌<◌, [], min};
 ghost use Rattle.image.specs.Refusals.{reply, answer, number_of, values_of};
 ghost use Rattle.image.specs.Stores.{pitch, size_of, store_checks, part_answer, same_answer};
 
@@ -111,6 +111,7 @@ impl Numbers {
 
 impl Part {
     // Whether it lies within an image, and is not empty.
+    #[tactic(auto, unfolding(crate::specs::Stores::part_answer))]
     pub fn check(&self, image: ImageSize) -> Result<(), PicScaleError>
         ensures { reply result ≡ part_answer self.now.x self.now.y self.now.width self.now.height image.width image.height }
     {
@@ -146,6 +147,7 @@ impl Part {
 }
 
 // The copy's own checks, after those of the two stores.
+#[tactic(auto, unfolding(crate::specs::Stores::same_answer))]
 pub(crate) fn check_same(dst: Numbers, src: Numbers) -> Result<(), PicScaleError>
     ensures { reply result ≡ same_answer dst src }
 {

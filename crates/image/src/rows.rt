@@ -8,6 +8,7 @@ use crate::source_rows::SourceRows;
 
 impl<'a, T> SourceRows<'a, T> {
     // Row `y`, or nothing past the last.
+    #[tactic(auto, using(crate::proofs::RowsOf::row_past, crate::proofs::RowsOf::row_within))]
     pub fn row(&self, y: usize) -> &'a [T]
         ensures row { result.now ≡ row (image_of self.now) y }
         ensures length { y < self.now.height → length result.now ≡ self.now.row_length }
@@ -20,6 +21,7 @@ impl<'a, T> SourceRows<'a, T> {
     }
 
     // The rows from row `y` on, `count` of them or as many as there are.
+    #[tactic(auto, using(crate::proofs::RowsOf::no_rows_from))]
     pub fn part(&self, y: usize, count: usize) -> SourceRows<'a, T>
         ensures image { image_of result ≡ take count (drop y (image_of self.now)) }
         ensures width { result.row_length ≡ self.now.row_length }
@@ -44,6 +46,7 @@ impl<'a, T> SourceRows<'a, T> {
 
 // Copies rows, and no gap. By row number: of what `chunks_mut` lends a proof keeps no element. (The engine has its own: this
 // one asks that rows fit, and so it is not public.)
+#[tactic(auto, using(crate::proofs::Paint::painted_none, crate::proofs::Paint::painted_more, crate::proofs::Strides::row_fits))]
 pub(crate) fn copy_rows<T: Element>(src: &SourceRows<'_, T>, dst: &mut [T], dst_stride: usize)
     requires { RowsFit src.now.row_length dst_stride src.now.height (length dst.old) }
     ensures { dst.new ≡ painted dst.old dst_stride (row (image_of src.now)) src.now.height }

@@ -1,11 +1,12 @@
 // Sizes in bytes, decided exactly: products and sums stop at the largest number, which is past the limit. The functions and
 // their parameters are the Rust's.
-ghost use Rattle.std.specs.Prelude.{◌≡◌, ℕ, ◌+◌, ◌-◌, ◌*◌, ◌<◌, ◌||◌, nat_lt};
+ghost use Rattle.std.specs.Prelude.{◌≡◌, ◌+◌, ◌-◌, ◌*◌, ◌<◌, ◌||◌, nat_lt};
 ghost use Rattle.image.specs.Stores.{byte_limit};
 
 const LIMIT: usize = 0x7fff_ffff_ffff_ffff;
 
 // Whether an image without gaps is too large.
+#[tactic(auto, using(crate::proofs::Sizes::sat_mul, crate::proofs::Sizes::sat_test))]
 pub(crate) fn check_image_size_overflow(
     width: usize,
     height: usize,
@@ -23,6 +24,7 @@ pub(crate) fn check_image_size_overflow(
 }
 
 // Whether an image whose rows begin `stride` apart is too large.
+#[tactic(auto, using(crate::proofs::Sizes::sat_mul, crate::proofs::Sizes::sat_add, crate::proofs::Sizes::sat_test))]
 pub(crate) fn check_image_size_overflow_with_stride(
     width: usize,
     height: usize,

@@ -1,5 +1,5 @@
 // A family of 16-bit elements whose values are held to the depth.
-ghost use Rattle.std.specs.Prelude.{◌≡◌, ℕ, ◌-◌, ◌^◌, ◌≤◌, true, map};
+ghost use Rattle.std.specs.Prelude.{◌≡◌, ◌-◌, ◌^◌, ◌≤◌, true, map};
 ghost use Rattle.layers.specs.Layers.{limited, limit_of};
 ghost use Rattle.layers.specs.Shapes.{limit_shaped};
 

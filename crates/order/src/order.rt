@@ -1,8 +1,6 @@
 // Reading an order.
-ghost use Rattle.std.specs.Prelude.{◌≡◌, ℕ, ◌+◌, ◌*◌, ◌/◌, ◌%◌, Bool, length, IfOk, ◌==◌, slice_index};
+ghost use Rattle.std.specs.Prelude.{◌≡◌, ◌+◌, ◌*◌, ◌/◌, ◌%◌, length, IfOk, ◌==◌, slice_index};
 ghost use Rattle.image.specs.Refusals.{reply, answer};
-ghost use Rattle.sampler.specs.Functions.{function_at};
-ghost use Rattle.planner.specs.declared.scaler.Scaler.{Scaler};
 ghost use Rattle.planner.specs.declared.scaler.Route.TheVariants.{Single};
 ghost use Rattle.order.specs.Orders.{order_checks, element_checks, Read};
 

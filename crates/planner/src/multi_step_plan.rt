@@ -1,7 +1,7 @@
 // Making a plan from the table of its stages, and reading it.
-ghost use Rattle.std.specs.Prelude.{◌≡◌, ◌<◌, ◌≤◌};
+ghost use Rattle.std.specs.Prelude.{◌≡◌, ◌≤◌};
 ghost use Rattle.planner.specs.Stages.{stages_of};
-ghost use Rattle.planner.specs.Chains.{Dimensions, WellSized, Each, Chain};
+ghost use Rattle.planner.specs.Chains.{WellSized, Each, Chain};
 ghost use Rattle.planner.specs.Plans.{work_of, half_of};
 ghost use Rattle.planner.specs.Plan.{Planned, plan_stages, plan_work, plan_half};
 

@@ -1,7 +1,6 @@
 // What a caller asks of the planner.
 ghost use Rattle.std.specs.Prelude.{◌≡◌, false};
 ghost use Rattle.sampler.specs.declared.sampler.ResamplingFunction.TheVariants.{MitchellNetravalli as Mitchell};
-ghost use Rattle.planner.specs.declared.scaler.Route.{Route};
 ghost use Rattle.planner.specs.declared.scaler.Route.TheVariants.{Single as ByBatches};
 
 use sampler::ResamplingFunction;

@@ -10,7 +10,7 @@ use crate::supersampling::supersampling_intermediate_size;
 use image::ImageSize;
 use sampler::ResamplingFunction;
 
-// The stages from `at` on. How the next comes about is known, if one is left.
+// The stages from `at` on. How the next comes about is known, if one is left: an enum, and the only place that asks it.
 #[derive(Drop)]
 pub(crate) struct Stages {
     pub(crate) strategy: Option<Strategy>,

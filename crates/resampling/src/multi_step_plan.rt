@@ -1,9 +1,8 @@
 // Chains: the first stage writes the first half, each later one the other half, the last the destination.
 // A destination stays a slice and its stride: a struct that held the `&mut` would owe in every contract that it is the lent one.
-ghost use Rattle.std.specs.Prelude.{◌≡◌, ℕ, ◌+◌, ◌-◌, ◌*◌, ◌<◌, ◌≤◌, true, false, not, [], ◌∷◌, ◌++◌, length, take, if◌then◌else◌};
+ghost use Rattle.std.specs.Prelude.{◌≡◌, ◌+◌, ◌*◌, ◌≤◌, true, false, not, [], ◌∷◌, ◌++◌, length, take, if◌then◌else◌};
 ghost use Rattle.image.specs.Images.{image_of};
 ghost use Rattle.image.specs.Rows.{RowsFit, row, painted};
-ghost use Rattle.image.specs.declared.image_size.ImageSize.{ImageSize};
 ghost use Rattle.planner.specs.Chains.{Linked, Dimensions};
 ghost use Rattle.planner.specs.Plans.{area};
 ghost use Rattle.planner.specs.Plan.{plan_stages, plan_work, plan_half};

@@ -1,9 +1,9 @@
 // The resample call and the window call on a sheet.
-ghost use Rattle.std.specs.Prelude.{◌≡◌, ℕ, false, not, ◌&&◌, ◌||◌, List, [], ◌∷◌, length, is_ok, if◌then◌else◌, nat_lt};
+ghost use Rattle.std.specs.Prelude.{◌≡◌, false, not, ◌&&◌, List, [], ◌∷◌, length, is_ok, if◌then◌else◌, nat_lt};
 ghost use Rattle.image.specs.Refusals.{reply, check, answer};
 ghost use Rattle.image.specs.Stores.{elements_mut, laid};
 ghost use Rattle.sampler.specs.Functions.{is_nearest};
-ghost use Rattle.history.specs.Calls.{Store, Window, Request, match_answer, buffer_checks, buffer_answer, resample_answer, asked, plan_value, Step};
+ghost use Rattle.history.specs.Calls.{Store, match_answer, buffer_checks, resample_answer, asked, plan_value, Step};
 ghost use Rattle.history.specs.Calls.Window.{whole as entire, part as within};
 ghost use Rattle.history.specs.Past.{Entry, Past, Upheld};
 ghost use Rattle.history.specs.Promise.{Promise};

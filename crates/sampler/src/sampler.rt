@@ -1,6 +1,6 @@
 // The resampling functions, each with its place, a number from 0 by which callers in C and files name it, and its record.
 ghost use Rattle.std.specs.Prelude.{◌≡◌, not, if◌then◌else◌, Ok, Err, nat_lt};
-ghost use Rattle.sampler.specs.Functions.{place, function_at, filter_of, is_nearest, size_of, float_of, ewa_of, fixed_of, area_of};
+ghost use Rattle.sampler.specs.Functions.{place, function_at, filter_of, is_nearest, size_of, float_of, ewa_of, fixed_of};
 
 #[derive(Clone, Copy, Debug, PartialEq, Eq)]
 pub enum ResamplingFunction {

@@ -1,5 +1,5 @@
 // The line kernel of Span.
-ghost use Rattle.std.specs.Prelude.{◌≡◌, ℕ, ◌-◌, ◌*◌, ◌^◌, ◌<◌, ◌≤◌, false, sum_by};
+ghost use Rattle.std.specs.Prelude.{◌≡◌, ◌-◌, ◌*◌, ◌^◌, ◌<◌, ◌≤◌, false, sum_by};
 ghost use Rattle.image.specs.Rows.{part};
 ghost use Rattle.convolution.specs.Meaning.{Dimension};
 ghost use Rattle.lines.specs.Along.{line_of};
@@ -13,6 +13,7 @@ use sampler::ResamplingFunction;
 
 // The first element that the output `x` covers, and the first past it that it does not. No output covers anything
 // where there are no outputs.
+// (It asks nothing, as a public function here; an `Axis` would ask that its lengths be in their range.)
 pub fn span_bounds(n: u16, m: u16, x: u16) -> (usize, usize)
     ensures { result ≡ span_bounds n m x }
 {

@@ -1,5 +1,5 @@
 // Where an output lies, and the elements there.
-ghost use Rattle.std.specs.Prelude.{◌≡◌, ℕ, ◌+◌, ◌-◌, ◌<◌, min, slice_index_or};
+ghost use Rattle.std.specs.Prelude.{◌≡◌, ◌+◌, ◌-◌, ◌<◌, min, slice_index_or};
 ghost use Rattle.lines.specs.Along.{line_of};
 ghost use Rattle.tent.specs.Tent.{tent_place};
 
@@ -7,6 +7,7 @@ use image::Element;
 use lines::Line;
 
 // The place of the output `x`: index and remainder. With no outputs there is no step, and all of the distance is left.
+// (It asks nothing, as a public function here; an `Axis` would ask that its lengths be in their range.)
 pub fn tent_place(n: u16, m: u16, x: u16) -> (usize, usize)
     ensures { result ≡ tent_place n m x }
 {

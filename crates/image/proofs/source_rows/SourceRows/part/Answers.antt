@@ -1,13 +1,8 @@
 use Rattle.std.proofs.Common.{◌-◌, ◌*◌, length, drop, take_all, length-drop, arith, ap, ◌∙◌}
 use Rattle.image.specs.Rows.{rows}
 use Rattle.image.proofs.Strides.{rows_fit_from}
-use Rattle.image.proofs.RowsOf.{rows_from, no_rows_from}
+use Rattle.image.proofs.RowsOf.{rows_from}
 use Rattle.image.proofs.source_rows.SourceRows.part.Goals as goal
-
-pub returns-then-y-self-clause-image : goal.returns-then-y-self-clause-image
-returns-then-y-self-clause-image g c =
-    let r = c.args.self.now in
-    no_rows_from r.elements.now r.row_length r.stride r.height c.args.y c.args.count c.if-y-self.true
 
 pub invariant_of-result-2 : goal.invariant_of-result-2
 invariant_of-result-2 g c =
