@@ -265,7 +265,8 @@ impl fmt::Display for Strip {
     }
 }
 
-// The numbers that `n` from `a` on and `m` from `b` on have in common: the first, and how many.
+// The numbers that `n` from `a` on and `m` from `b` on have in common: the first, and how many. (Rows here, columns there: the
+// strips have no type for either.)
 fn common(a: usize, n: usize, b: usize, m: usize) -> (usize, usize)
     requires { (a + n < 2 ^ 64) × (b + m < 2 ^ 64) }
     ensures { result ≡ (max a b, min (a + n) (b + m) - max a b) }
