@@ -158,7 +158,8 @@ def buffers(all_functions):
 
 def switches(all_functions):
     """Choices of the step to run by a kind, a strategy, a route or a flag."""
-    yield from grep(r'match (stage\.kind|self\.kind|choose_strategy|route|kind|options\.channels|channels|window)\b|if flipped|\bif fours\b|self\.first\.knows\(options')
+    yield from grep(r'match \(?(stage\.kind|self\.kind|self\.strategy|choose_strategy|route|kind|options\.channels|channels|window)\b|if flipped'
+                    r'|\bif fours\b|self\.first\.knows\(options|family\.can_do_4_rows\(\)')
 
 
 def proofs(all_functions):
