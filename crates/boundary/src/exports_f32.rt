@@ -1,4 +1,5 @@
-// The exported calls on f32, by FloatTent.
+// The exported calls on f32, by FloatTent. A C symbol has no type parameter, so each element type has its own,
+// with the parameters that C passes.
 ghost use Rattle.std.specs.Prelude.{false, length, Some, None};
 ghost use Rattle.foreign_calls.specs.Crossing.{Called, PlanTold, CropTold};
 ghost use Rattle.boundary.specs.Families.{float_tent};

@@ -1,4 +1,5 @@
-// The exported calls on u16, by Pair of Tent and Span held to the depth.
+// The exported calls on u16, by Pair of Tent and Span held to the depth. A C symbol has no type parameter, so each family
+// has its own, with the parameters that C passes.
 ghost use Rattle.std.specs.Prelude.{true, Some, None};
 ghost use Rattle.foreign_calls.specs.Crossing.{Called, PlanTold};
 ghost use Rattle.boundary.specs.Families.{limited_tent_span};

@@ -16,9 +16,8 @@ use resampling::resample_with_scratch;
 use sampler::ResamplingFunction;
 use span::Span;
 use std::alloc::Global;
-use std::array;
-use std::io;
 use std::str::SplitWhitespace;
+use std::{array, io};
 use tent::{FloatTent, Tent};
 
 // What is resampled how, and the destination's buffer before the call: how many elements it has, and the number of each.
@@ -32,7 +31,7 @@ struct Case {
     mark: usize,
 }
 
-// The function at a place, or Bilinear where there is none.
+// The function at a place, or Bilinear where there is none. (A `TryFrom` would refuse, and every line is a case here.)
 fn function_at(place: usize) -> ResamplingFunction {
     u8::try_from(place)
         .ok()
@@ -40,6 +39,7 @@ fn function_at(place: usize) -> ResamplingFunction {
         .unwrap_or(ResamplingFunction::Bilinear)
 }
 
+// A word that is no number counts as 0, so that it is not the parse's own answer.
 fn number(word: &str) -> usize {
     word.parse().unwrap_or(0)
 }
@@ -139,7 +139,7 @@ fn replay(rt: &HostRuntime, line: &str) -> io::Result<()> {
     };
     let mut words = rest.split_whitespace();
     let case = case_of(&mut words);
-    // By the kind's element type and family.
+    // By the kind's element type and family: a table of functions would name the same three.
     match (kind, case.limit) {
         ("u16", true) => replay_as::<u16, Limit<Pair<Tent, Span>>>(rt, kind, &case, words),
         ("u16", false) => replay_as::<u16, Pair<Tent, Span>>(rt, kind, &case, words),

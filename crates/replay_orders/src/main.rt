@@ -20,7 +20,7 @@ fn digit(b: u8) -> u8 {
     }
 }
 
-// The bytes that a line of hexadecimal stands for.
+// The bytes that a line of hexadecimal stands for, whatever its digits are.
 fn decode(heap: Global, line: &[u8]) -> Result<Vec<u8>, AllocError> {
     let (pairs, _) = line.as_chunks::<2>();
     pairs

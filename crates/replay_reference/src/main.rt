@@ -49,11 +49,12 @@ struct List<'a> {
     calls: Vec<Call<'a>>,
 }
 
-// A byte of a request; no function's place and no flag is larger.
+// A byte of a request; no function's place and no flag is larger. (Numbers above are the largest, and not refused.)
 fn byte(n: usize) -> u8 {
     u8::try_from(n).unwrap_or(u8::MAX)
 }
 
+// (No `From`: request and array are both of other crates.)
 fn request_of(
     [
         function,
@@ -184,6 +185,7 @@ fn run<T: Numbered, F: KernelFamily<T> + Default>(
             Err(fault) => print!(rt; "refused {fault}; ")?,
         }
     }
+    // `Row` would leave a space where a sheet has no element.
     print!(rt; "sheet")?;
     for element in &buffer {
         print!(rt; " {}", element.number())?;
