@@ -1,7 +1,7 @@
 // The lengths of one axis, in pixels.
 ghost use Rattle.convolution.specs.Meaning.{Dimension};
 
-#[derive(Drop)]
+#[derive(Clone, Copy)]
 pub struct Axis {
     pub source: usize,
     pub target: usize,

@@ -11,7 +11,7 @@ module _ {T : Type 0} where
   lent rows = map (λ r. r.now) rows
 
   abbrev pub line_of : Line T → List T
-  line_of l = line l.elements.now l.start l.step l.axis.now.source
+  line_of l = line l.elements.now l.start l.step l.axis.source
 
   -- output x, of m, of each of the c channels of a row of n pixels
   abbrev pub pixel : (List T → ℕ → ℕ → List T) → List T → ℕ → ℕ → ℕ → ℕ → List T

@@ -118,3 +118,11 @@ module _ {X : Type 0} (m : Meaning X) (o : ConvolutionOptions) where
   pub row_value_part : (im : List (List X)) (y k i : ℕ) → i < k → row_value m o (take k (drop y im)) i ≡ row_value m o im (y + i)
   row_value_part im y k i l =
       ap (λ (xs : List X). m.across o.function o.channels xs o.dst_size.width o.bit_depth) (get_or-take k (drop y im) i [] l ∙ get_or-drop y im i [])
+
+  -- the same in a buffer: row i of a part of it that begins with row y
+  pub row_value_in_part : (xs : List X) (s y i a k : ℕ) → a ≡ y * s → i * s + source_row o ≤ k
+      → m.across o.function o.channels (part (i * s) (source_row o) (part a k xs)) o.dst_size.width o.bit_depth
+      ≡ m.across o.function o.channels (part ((y + i) * s) (source_row o) xs) o.dst_size.width o.bit_depth
+  row_value_in_part xs s y i a k at fits =
+      ap (λ (zs : List X). m.across o.function o.channels zs o.dst_size.width o.bit_depth)
+      (part-part (i * s) (source_row o) a k xs fits ∙ ap (λ (p : ℕ). part p (source_row o) xs) (omega (arith, add-mul y i s)))

@@ -9,6 +9,6 @@ pub struct Line<'a, T> {
     pub elements: &'a [T],
     pub start: usize,
     pub step: usize,
-    pub axis: &'a Axis,
-    ghost within: { start + step * (axis.now.source - 1) < length elements.now },
+    pub axis: Axis,
+    ghost within: { start + step * (axis.source - 1) < length elements.now },
 }

@@ -35,9 +35,9 @@ pub trait LineKernel<T: Element>: Drop {
 
     // The output `x` of a line.
     fn element(&self, place: Self::Place, line: &Line<'_, T>, x: usize) -> T
-        requires place { placed line.now.axis.now.source line.now.axis.now.target x place }
-        requires output { x < line.now.axis.now.target }
-        ensures { result ∷ [] ≡ value (line_of line.now) line.now.axis.now.target x };
+        requires place { placed line.now.axis.source line.now.axis.target x place }
+        requires output { x < line.now.axis.target }
+        ensures { result ∷ [] ≡ value (line_of line.now) line.now.axis.target x };
 
     ghost one: { (xs : List T) (m x : ℕ) → 0 < length xs → length (value xs m x) ≡ 1 };
 }

@@ -40,7 +40,7 @@ fn pixel_of_row<T: Element, K: LineKernel<T>, const N: usize>(
             elements: row,
             start: k,
             step: N,
-            axis,
+            axis: *axis,
         };
         *out = kernel.element(place, &line, x);
     }
@@ -149,12 +149,16 @@ impl<T: Element, K: LineKernel<T>> KernelFamily<T> for Lines<K> {
             target: options.dst_size.height,
         };
         let place = self.kernel.place(&axis, row);
+        // Both are read once: each element that is written could else be one of them, and a column would take up to five
+        // times as long.
+        let elements = src.elements;
+        let step = src.stride;
         for (j, out) in dst.iter_mut().enumerate() {
             let line = Line {
-                elements: src.elements,
+                elements,
                 start: j,
-                step: src.stride,
-                axis: &axis,
+                step,
+                axis,
             };
             *out = self.kernel.element(place, &line, row);
         }

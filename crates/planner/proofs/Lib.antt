@@ -4,3 +4,4 @@ pub mod Sized
 pub mod Largest
 pub mod Links
 pub mod Answered
+pub mod Unknown

@@ -1,6 +1,7 @@
 // Planning: the checks in their order, then the table of stages, which alone takes memory.
-ghost use Rattle.std.specs.Prelude.{◌≡◌, [], ◌∷◌, IfOk};
+ghost use Rattle.std.specs.Prelude.{◌≡◌, [], ◌∷◌, IfOk, MatchResult};
 ghost use Rattle.image.specs.Refusals.{reply, answer};
+ghost use Rattle.image.specs.declared.validation.PicScaleError.TheVariants.{OutOfMemory};
 ghost use Rattle.planner.specs.Stages.{stages_of};
 ghost use Rattle.planner.specs.Plans.{limit_check, size_checks, asks_unknown, some_unknown, plan_answer};
 ghost use Rattle.planner.specs.Plan.{Planned, but_for_memory};
@@ -67,11 +68,24 @@ fn asks_unknown<T: Element, F: KernelFamily<T>>(family: &F, stage: Stage) -> boo
     stage.needs_kernel() && !family.knows(stage.function)
 }
 
-// Whether some stage does.
+// Whether some stage does. Two tell for all: only an enlargement has more, and its stages have one function.
 fn some_unknown<T: Element, F: KernelFamily<T>>(family: &F, task: &Task) -> bool
     ensures { result ≡ some_unknown (F.KernelFamily.meaning family.now).knows (stages_of task.now.scaler task.now.source task.now.target) }
 {
-    task.stages().any(|stage| asks_unknown(family, stage))
+    task.stages()
+        .take(2)
+        .any(|stage| asks_unknown(family, stage))
+}
+
+// The table of the stages, each pushed as it comes: `collect` asks for them in portions, and a plan took longer.
+fn table(heap: Global, task: &Task) -> Result<Vec<Stage>, PicScaleError>
+    ensures { MatchResult result (λ v. v.items ≡ stages_of task.now.scaler task.now.source task.now.target) (λ e. e ≡ OutOfMemory) }
+{
+    let mut steps = Vec::new(heap);
+    for stage in task.stages() {
+        steps.push(stage)?;
+    }
+    Ok(steps)
 }
 
 // The plan for these channels and sizes, which keeps its family. Only the table of stages takes memory, and it is asked
@@ -91,6 +105,6 @@ pub fn plan_generic_resize<T: Element, F: KernelFamily<T>>(
     if some_unknown(&family, &task) {
         return Err(PicScaleError::UnknownResizingFilter);
     }
-    let steps = task.stages().collect(heap)?;
+    let steps = table(heap, &task)?;
     Ok(ResamplingPlan::new(family, task, steps))
 }

@@ -1,5 +1,6 @@
 // The stages of a plan, one after the other.
 ghost use Rattle.std.specs.Prelude.{◌≡◌, true};
+ghost use Rattle.sampler.specs.Functions.{twice_ratio};
 ghost use Rattle.planner.specs.Chains.{Dimensions};
 ghost use Rattle.planner.specs.Strategies.{suits_left};
 
@@ -15,8 +16,11 @@ use sampler::ResamplingFunction;
 pub(crate) struct Stages {
     pub(crate) strategy: Option<Strategy>,
     pub(crate) function: ResamplingFunction,
+    // looked up once for all stages
+    pub(crate) ratio: usize,
     pub(crate) at: ImageSize,
     pub(crate) target: ImageSize,
+    ghost bears: { ratio ≡ twice_ratio function },
     ghost sizes: { Dimensions at × Dimensions target },
     ghost suited: { suits_left strategy at target ≡ true },
 }
@@ -39,7 +43,7 @@ impl Iterator for Stages {
                 Some(Stage::new(self.function, at, self.target))
             }
             Strategy::MultiStep => {
-                let next_size = next_intermediate_size(self.function, self.target, at);
+                let next_size = next_intermediate_size(self.ratio, self.target, at);
                 self.strategy = (next_size != self.target).then_some(Strategy::MultiStep);
                 self.at = next_size;
                 Some(Stage::new(self.function, at, next_size))

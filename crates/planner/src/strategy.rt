@@ -5,6 +5,7 @@ ghost use Rattle.planner.specs.Strategies.{stages_by, suits};
 ghost use Rattle.planner.specs.Left.{left};
 
 use crate::stages::Stages;
+use crate::superresolution::twice_max_ratio;
 use crate::supersampling::supersampling_prefilter;
 use crate::task::Task;
 use image::ImageSize;
@@ -55,6 +56,7 @@ impl Task {
         Stages {
             strategy: Some(self.strategy()),
             function: self.scaler.function,
+            ratio: twice_max_ratio(self.scaler.function),
             at: self.source,
             target: self.target,
         }

@@ -8,7 +8,7 @@ use image::ImageSize;
 use sampler::ResamplingFunction;
 
 // Twice the largest ratio of one stage, by the kernel size of the function's record.
-fn twice_max_ratio(function: ResamplingFunction) -> usize
+pub(crate) fn twice_max_ratio(function: ResamplingFunction) -> usize
     ensures { result ≡ twice_ratio function }
 {
     let size = function.get_resampling_filter().min_kernel_size;
@@ -31,16 +31,11 @@ fn grown_axis(ratio: usize, target: usize, v: usize) -> usize
     target.min((v * ratio).div_ceil(2))
 }
 
-// The size after one stage by `function`.
-pub(crate) fn next_intermediate_size(
-    function: ResamplingFunction,
-    target: ImageSize,
-    at: ImageSize,
-) -> ImageSize
-    requires { Dimensions at }
-    ensures { result ≡ grown_size (twice_ratio function) target at }
+// The size after one stage.
+pub(crate) fn next_intermediate_size(ratio: usize, target: ImageSize, at: ImageSize) -> ImageSize
+    requires { Dimensions at × (ratio ≤ 8) }
+    ensures { result ≡ grown_size ratio target at }
 {
-    let ratio = twice_max_ratio(function);
     ImageSize::new(
         grown_axis(ratio, target.width, at.width),
         grown_axis(ratio, target.height, at.height),

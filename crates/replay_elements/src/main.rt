@@ -133,19 +133,24 @@ fn replay_as<T: Numbered, F: KernelFamily<T> + Default>(
     }
 }
 
+// By the kind's element type and family: a table of functions would name the same three. The kind is looked for before a
+// number is read, and blanks at the end go first: they would be passed over again for each number that is missing.
 fn replay(rt: &HostRuntime, line: &str) -> io::Result<()> {
-    let Some((kind, rest)) = line.split_once(' ') else {
-        return println!(rt; "no case");
-    };
-    let mut words = rest.split_whitespace();
-    let case = case_of(&mut words);
-    // By the kind's element type and family: a table of functions would name the same three.
-    match (kind, case.limit) {
-        ("u16", true) => replay_as::<u16, Limit<Pair<Tent, Span>>>(rt, kind, &case, words),
-        ("u16", false) => replay_as::<u16, Pair<Tent, Span>>(rt, kind, &case, words),
-        ("f32", _) => replay_as::<f32, FloatTent>(rt, kind, &case, words),
-        _ => println!(rt; "no case"),
+    if let Some(rest) = line.strip_prefix("u16 ") {
+        let mut words = rest.trim_end().split_whitespace();
+        let case = case_of(&mut words);
+        return if case.limit {
+            replay_as::<u16, Limit<Pair<Tent, Span>>>(rt, "u16", &case, words)
+        } else {
+            replay_as::<u16, Pair<Tent, Span>>(rt, "u16", &case, words)
+        };
     }
+    if let Some(rest) = line.strip_prefix("f32 ") {
+        let mut words = rest.trim_end().split_whitespace();
+        let case = case_of(&mut words);
+        return replay_as::<f32, FloatTent>(rt, "f32", &case, words);
+    }
+    println!(rt; "no case")
 }
 
 // Each program over lines has this loop: a function for it would take a closure, and be no shorter.

@@ -34,7 +34,7 @@ module _ {E : Type 0} (m : Meaning E) (o : ConvolutionOptions) (im : List (List 
 
   module _ (shaped : Shaped m) (some : 0 < o.src_size.height) (even : Sized (source_row o) o.src_size.height im) where
     -- every column value is a row of the source's width
-    column_even : (y : ℕ) → length (column_value m o im y) ≡ source_row o
+    pub column_even : (y : ℕ) → length (column_value m o im y) ≡ source_row o
     column_even y =
         shaped.column_length o.function o.channels (source_row o) im o.dst_size.height y o.bit_depth (omega (arith, even.tall)) (λ k l. even.even k (omega (arith, even.tall)))
 

@@ -74,6 +74,17 @@ fn nearest_row<T: Element>(across: &Scale, channels: usize, src: &[T], dst: &mut
     }
 }
 
+// Row `y`, where there is one. (`SourceRows::row` tests the number for each row, and rows of few pixels took half as long again.)
+#[tactic(auto, using(image::proofs::RowsOf::row_within))]
+fn row_within<'a, T>(src: &SourceRows<'a, T>, y: usize) -> &'a [T]
+    requires { y < src.now.height }
+    ensures row { result.now ≡ row (image_of src.now) y }
+    ensures length { length result.now ≡ src.now.row_length }
+{
+    let from = y * src.stride;
+    &src.elements[from..from + src.row_length]
+}
+
 // All rows: the source's row once for each of the destination's, by row number as in `copy_rows`.
 #[tactic(auto, using(image::proofs::Paint::painted_none, image::proofs::Paint::painted_more, crate::proofs::Sampled::sampled_row))]
 pub(crate) fn nearest_rows<T: Element>(
@@ -102,7 +113,7 @@ pub(crate) fn nearest_rows<T: Element>(
     for y in 0..target.height {
         let to = y * dst_stride;
         let into = &mut dst[to..to + m];
-        nearest_row(&across, channels, src.row(down.position(y)), into);
+        nearest_row(&across, channels, row_within(src, down.position(y)), into);
     }
 }
 

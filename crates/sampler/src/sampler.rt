@@ -117,7 +117,7 @@ const FUNCTIONS: [ResamplingFunction; 53] = [
 ];
 
 // A number that is the place of no function.
-#[derive(Clone, Copy, Debug)]
+#[derive(Clone, Copy, Debug, PartialEq, Eq)]
 pub struct UnknownPlace(pub u8);
 
 impl TryFrom<u8> for ResamplingFunction {

@@ -29,7 +29,7 @@ pub fn span_bounds(n: u16, m: u16, x: u16) -> (usize, usize)
 // The sum of the levels from element `low` up to `high` of a line. A `map` with a `sum` here was tried: that the sum fits
 // was not proved.
 fn sum_between<T: Level>(line: &Line<'_, T>, low: usize, high: usize) -> u64
-    requires { (low < high) × (high ≤ line.now.axis.now.source) }
+    requires { (low < high) × (high ≤ line.now.axis.source) }
     ensures value { result ≡ sum_by T.Level.level (part low (high - low) (line_of line.now)) }
     ensures bound { result ≤ T.Level.MOST * (high - low) }
 {
@@ -49,7 +49,7 @@ fn rounded_mean(sum: u64, count: u64) -> u64
 
 // The mean of the levels from element `low` up to `high`.
 fn mean_between<T: Level>(line: &Line<'_, T>, low: usize, high: usize) -> T
-    requires { (low < high) × (high ≤ line.now.axis.now.source) }
+    requires { (low < high) × (high ≤ line.now.axis.source) }
     ensures { result ≡ T.Level.of (span_mean T.Level.level (part low (high - low) (line_of line.now))) }
 {
     let sum = sum_between(line, low, high);

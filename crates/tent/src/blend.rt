@@ -6,7 +6,8 @@ ghost use Rattle.tent.specs.Tent.{tent_blend, float_blend};
 
 use levels::Level;
 
-pub trait Blend<T>: Drop {
+// (Not public: it asks something of its callers.)
+pub(crate) trait Blend<T>: Drop {
     // what a meaning reads past the end of a line
     ghost zero: { T };
 

@@ -2,10 +2,12 @@
 #![tactic(auto)]
 
 pub mod blend;
+pub mod float_linear;
 pub mod linear;
 pub mod place;
 
-pub use blend::{Blend, Rounded, Single};
+pub use blend::{Rounded, Single};
+pub use float_linear::FloatLinear;
 pub use linear::Linear;
 use lines::Lines;
 pub use place::tent_place;
@@ -14,5 +16,3 @@ pub use place::tent_place;
 pub type Tent = Lines<Linear<Rounded>>;
 
 pub type FloatTent = Lines<FloatLinear>;
-
-pub type FloatLinear = Linear<Single>;

@@ -23,7 +23,7 @@ pub fn tent_place(n: u16, m: u16, x: u16) -> (usize, usize)
 
 // Element `i` of a line.
 fn along<T: Element>(line: &Line<'_, T>, i: usize) -> T
-    requires { i < line.now.axis.now.source }
+    requires { i < line.now.axis.source }
     ensures { (d : T) → result ≡ slice_index_or (line_of line.now) i d }
 {
     line.elements[line.start + i * line.step]
@@ -31,9 +31,9 @@ fn along<T: Element>(line: &Line<'_, T>, i: usize) -> T
 
 // The elements at `i` and after it, where the last follows itself.
 pub(crate) fn taps<T: Element>(line: &Line<'_, T>, i: usize) -> (T, T)
-    requires { i < line.now.axis.now.source }
+    requires { i < line.now.axis.source }
     ensures first { (d : T) → result.0 ≡ slice_index_or (line_of line.now) i d }
-    ensures second { (d : T) → result.1 ≡ slice_index_or (line_of line.now) (min (i + 1) (line.now.axis.now.source - 1)) d }
+    ensures second { (d : T) → result.1 ≡ slice_index_or (line_of line.now) (min (i + 1) (line.now.axis.source - 1)) d }
 {
     let next = (i + 1).min(line.axis.source - 1);
     (along(line, i), along(line, next))

@@ -16,7 +16,7 @@ pub returns-in_err-steps-clause-answer : goal.returns-in_err-steps-clause-answer
 returns-in_err-steps-clause-answer g c =
     let p = err_from_is_err_and c.from_residual-in_err-steps.result c.from_residual-in_err-steps.ensures.1 in
     let k = c.in_ok-task.ensures.task in
-    rw (p.1, p.2) (plan_granted _ _ _ _ _ c.in_ok-task.ensures.answer (rw (k.0, k.2, k.3) at c.if-some_unknown.ensures))
+    rw (p.1, p.2, c.in_err-steps.ensures) (plan_granted _ _ _ _ _ c.in_ok-task.ensures.answer (rw (k.0, k.2, k.3) at c.if-some_unknown.ensures))
 
 pub returns-clause-answer : goal.returns-clause-answer
 returns-clause-answer g c =

@@ -8,7 +8,7 @@ use Rattle.span.proofs.mean.sum_between.Goals as goal
 pub offset_bounds-line-line : goal.offset_bounds-line-line
 offset_bounds-line-line g c =
     let l = c.args.line.now in
-    let p = place_fits c.loop-i.i l.axis.now.source l.start l.step (length l.elements.now) (omega arith) l.within in
+    let p = place_fits c.loop-i.i l.axis.source l.start l.step (length l.elements.now) (omega arith) l.within in
     search rules
 
 pub loop-i-preserved : goal.loop-i-preserved
@@ -16,7 +16,7 @@ loop-i-preserved g c =
     let t = g.T.Level in
     let l = c.args.line.now in
     let xs = l.elements.now in
-    let n = l.axis.now.source in
+    let n = l.axis.source in
     let low = c.args.low in
     let i = c.loop-i.i in
     let x = c.index-line-line in

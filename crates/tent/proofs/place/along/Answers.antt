@@ -6,14 +6,14 @@ use Rattle.tent.proofs.place.along.Goals as goal
 pub offset_bounds-line-line : goal.offset_bounds-line-line
 offset_bounds-line-line g c =
     let l = c.args.line.now in
-    let p = place_fits c.args.i l.axis.now.source l.start l.step (length l.elements.now) c.requires l.within in
+    let p = place_fits c.args.i l.axis.source l.start l.step (length l.elements.now) c.requires l.within in
     search rules
 
 pub returns : goal.returns
 returns g c d =
     let l = c.args.line.now in
     let xs = l.elements.now in
-    let n = l.axis.now.source in
+    let n = l.axis.source in
     let i = c.args.i in
     let x = c.index-line-line in
     sym x.is

@@ -28,7 +28,7 @@ turn s n more next st e at is by first =
 
 pub returns-in-MultiStep-clause-steps : goal.returns-in-MultiStep-clause-steps
 returns-in-MultiStep-clause-steps c =
-    turn c.args.self.now _ _ _ _ (c.in_ok-self.was ∙ ap Some c.in-MultiStep.is) c.next_intermediate_size-next_size.ensures c.ne.ensures c.then_some-self.ensures c.new-in-MultiStep.ensures
+    turn c.args.self.now _ _ _ _ (c.in_ok-self.was ∙ ap Some c.in-MultiStep.is) (c.next_intermediate_size-next_size.ensures ∙ ap (λ r. grown_size r c.args.self.now.target c.args.self.now.at) c.args.self.now.bears) c.ne.ensures c.then_some-self.ensures c.new-in-MultiStep.ensures
 
 pub returns-in-MultiStep-clause-goes : goal.returns-in-MultiStep-clause-goes
 returns-in-MultiStep-clause-goes c =
